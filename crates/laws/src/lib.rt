@@ -1,0 +1,1 @@
+// General theory that several layers share; see specs/. No code.
