@@ -1,0 +1,18 @@
+use borrow.Author.Needs.{needs}
+use mathlib.Core.Path.{sym}
+use Rattle.seats.specs.Laws.{remove-above}
+use Rattle.seats.proofs.Forms.{removed}
+use Rattle.seats.proofs.SeatSet.remove.Statement.{statement}
+use Rattle.seats.proofs.SeatSet.remove.Tie as tie
+
+shl-t6 : tie.Need-shl-t6
+shl-t6 c = search needs
+
+returns : tie.Need-returns
+returns c = let a = c .before .before .args in removed (a .self .bits) (a .seat) (c .before .if1 .taken)
+
+returns-2 : tie.Need-returns-2
+returns-2 c = let a = c .before .args in sym (remove-above (a .self .bits) (a .seat) (c .if1 .left))
+
+pub remove-spec : {M : Type 1} → statement M
+remove-spec = tie.close (tie.spec shl-t6 returns returns-2)
