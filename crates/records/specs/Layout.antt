@@ -1,0 +1,116 @@
+-- The layout of the four records, and checks 4 and 5. Numbers are stored most significant byte first; a record starts with its two-byte mark.
+use mathlib.Core.List.{List, [], _∷_, _++_}
+use Prim.Native.Nat.{ℕ, _+_, _*_}
+use lib.ListN.{length, getD}
+use lib.Dec.{eqb, ltb}
+use Rattle.laws.specs.Big.{bytes4, bytes8, bytesAll, big4, big8}
+use Rattle.laws.specs.Tab.{tab}
+use Rattle.laws.specs.Upd.{ifb}
+use Rattle.seats.specs.declared.SeatSet.{SeatSet}
+use Rattle.records.specs.declared.Report.{Report}
+use Rattle.records.specs.declared.Proposal.{Proposal}
+use Rattle.records.specs.declared.Notice.{Notice}
+use Rattle.records.specs.declared.View.{View}
+use Rattle.records.specs.declared.Form.{Form}
+use Rattle.records.specs.declared.RecordKind.the-variants as kinds
+
+-- the marks "NE", "PR", "SC", "VW"
+abbrev pub reportMark : List ℕ
+reportMark = 0x4e ∷ 0x45 ∷ []
+
+abbrev pub proposalMark : List ℕ
+proposalMark = 0x50 ∷ 0x52 ∷ []
+
+abbrev pub noticeMark : List ℕ
+noticeMark = 0x53 ∷ 0x43 ∷ []
+
+abbrev pub viewMark : List ℕ
+viewMark = 0x56 ∷ 0x57 ∷ []
+
+abbrev pub reportLength : ℕ
+reportLength = 18
+
+abbrev pub proposalLength : ℕ
+proposalLength = 84
+
+abbrev pub noticeLength : ℕ
+noticeLength = 14
+
+abbrev pub viewLength : ℕ
+viewLength = 78
+
+-- the set of seats at a place
+abbrev pub seatsAt : List ℕ → ℕ → SeatSet
+seatsAt b at = record { bits = big8 b at }
+
+-- the sixteen numbers at a place, office 0 first
+abbrev pub sixteenAt : List ℕ → ℕ → List ℕ
+sixteenAt b at = tab 16 (λ o. big4 b (at + 4 * o))
+
+-- report: 2-9 joining, 10-17 leaving
+unfoldable pub encodeReport : Report → List ℕ
+encodeReport r = reportMark ++ bytes8 (r .joining .bits) ++ bytes8 (r .leaving .bits)
+
+unfoldable pub decodeReport : List ℕ → Report
+decodeReport b = record { joining = seatsAt b 2; leaving = seatsAt b 10 }
+
+-- proposal: 2 sender, 3 kind, 4-11 members, 12-15 start number, 16-19 proposal number, 20-83 sixteen used numbers
+unfoldable pub encodeProposal : Proposal → List ℕ
+encodeProposal p =
+    proposalMark ++ (p .sender ∷ p .kind ∷ []) ++ bytes8 (p .members .bits) ++ bytes4 (p .start) ++ bytes4 (p .number)
+    ++ bytesAll (p .used)
+
+unfoldable pub decodeProposal : List ℕ → Proposal
+decodeProposal b =
+    record {
+      sender = getD b 2 0;
+      kind = getD b 3 0;
+      members = seatsAt b 4;
+      start = big4 b 12;
+      number = big4 b 16;
+      used = sixteenAt b 20;
+    }
+
+-- start notice: 2-5 start number, 6-13 suggested members
+unfoldable pub encodeNotice : Notice → List ℕ
+encodeNotice n = noticeMark ++ bytes4 (n .start) ++ bytes8 (n .members .bits)
+
+unfoldable pub decodeNotice : List ℕ → Notice
+decodeNotice b = record { start = big4 b 2; members = seatsAt b 6 }
+
+-- view: 2-5 view number, 6-13 members, 14-77 sixteen start numbers
+unfoldable pub encodeView : View → List ℕ
+encodeView v = viewMark ++ bytes4 (v .number) ++ bytes8 (v .members .bits) ++ bytesAll (v .starts)
+
+unfoldable pub decodeView : List ℕ → View
+decodeView b = record { number = big4 b 2; members = seatsAt b 6; starts = sixteenAt b 14 }
+
+-- the two bytes of a mark as one number
+abbrev pub valueOf : List ℕ → ℕ
+valueOf m = getD m 0 0 * 256 + getD m 1 0
+
+-- the value of the mark that bytes start with; 0, which is no record's, where there are under two
+unfoldable pub markOf : List ℕ → ℕ
+markOf b = ifb (ltb (length b) 2) 0 (valueOf b)
+
+-- the kind and length of the report or proposal with a mark; length 0 where the mark is neither's
+unfoldable pub formFor : ℕ → Form
+formFor m =
+    ifb (eqb m (valueOf reportMark)) (record { kind = kinds.Report; length = reportLength })
+    (ifb (eqb m (valueOf proposalMark)) (record { kind = kinds.Proposal; length = proposalLength })
+    (record { kind = kinds.Other; length = 0 }))
+
+unfoldable pub formOf : List ℕ → Form
+formOf b = formFor (markOf b)
+
+-- checks 4 and 5 where the mark calls for n bytes, n 0 where the mark is refused: 0 where both pass
+unfoldable pub checkFor : ℕ → List ℕ → ℕ
+checkFor n b = ifb (eqb n 0) 4 (ifb (eqb (length b) n) 0 5)
+
+-- the two checks on a lone report or proposal
+unfoldable pub checkOf : List ℕ → ℕ
+checkOf b = checkFor (formOf b .length) b
+
+-- the two checks on a lone record, on its own mark m and its own length n
+unfoldable pub checkOwn : List ℕ → ℕ → List ℕ → ℕ
+checkOwn m n b = checkFor (ifb (eqb (markOf b) (valueOf m)) n 0) b

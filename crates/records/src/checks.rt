@@ -1,0 +1,73 @@
+// Checks 4 and 5, by the mark's value.
+use crate::Form;
+use crate::RecordKind;
+use crate::layout;
+use crate::numbers::get16;
+ghost use mathlib.Core.Path.{_≡_};
+ghost use Rattle.records.specs.Layout.{markOf, formFor, formOf, checkFor, checkOf, checkOwn};
+
+// The value of the mark that bytes start with; 0, which is no record's, where there are under two.
+fn mark_value(bytes: &[u8]) -> u16
+    ensures { λ r. ⌜ r ≡ markOf (now (bytes .entry)) ⌝ }
+{
+    if bytes.len() < 2 {
+        return 0;
+    }
+    get16(bytes[0], bytes[1])
+}
+
+fn form_for(value: u16) -> Form
+    ensures { λ r. ⌜ r ≡ formFor value ⌝ }
+{
+    match value {
+        layout::REPORT => Form {
+            kind: RecordKind::Report,
+            length: layout::REPORT_LENGTH,
+        },
+        layout::PROPOSAL => Form {
+            kind: RecordKind::Proposal,
+            length: layout::PROPOSAL_LENGTH,
+        },
+        _ => Form {
+            kind: RecordKind::Other,
+            length: 0,
+        },
+    }
+}
+
+// The kind of record that bytes start with, by their mark, and the length of that kind; length 0 where it is neither a report nor
+// a proposal.
+pub fn form_of(bytes: &[u8]) -> Form
+    ensures { λ r. ⌜ r ≡ formOf (now (bytes .entry)) ⌝ }
+{
+    form_for(mark_value(bytes))
+}
+
+// Checks 4 and 5 where the mark calls for `n` bytes, 0 where it is refused.
+fn check_for(n: usize, bytes: &[u8]) -> u8
+    ensures { λ r. ⌜ r ≡ checkFor n (now (bytes .entry)) ⌝ }
+{
+    if n == 0 {
+        return 4;
+    }
+    if bytes.len() == n { 0 } else { 5 }
+}
+
+// The number by checks 4 and 5 for a lone report or proposal: 0 where it passes both.
+pub fn check(bytes: &[u8]) -> u8
+    ensures { λ r. ⌜ r ≡ checkOf (now (bytes .entry)) ⌝ }
+{
+    let f = form_of(bytes);
+    check_for(f.length, bytes)
+}
+
+// The same two checks on a record's own mark and its own length.
+pub fn check_own(mark: &[u8; 2], n: usize, bytes: &[u8]) -> u8
+    ensures { λ r. ⌜ r ≡ checkOwn (now (mark .entry)) n (now (bytes .entry)) ⌝ }
+{
+    if mark_value(bytes) == get16(mark[0], mark[1]) {
+        check_for(n, bytes)
+    } else {
+        check_for(0, bytes)
+    }
+}

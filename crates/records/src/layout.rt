@@ -1,0 +1,48 @@
+// The layout: each mark, length and place once, for reader and writer alike.
+
+pub const REPORT_MARK: [u8; 2] = *b"NE";
+
+pub const PROPOSAL_MARK: [u8; 2] = *b"PR";
+
+pub const NOTICE_MARK: [u8; 2] = *b"SC";
+
+pub const VIEW_MARK: [u8; 2] = *b"VW";
+
+// Each mark's value: its two bytes as one number.
+pub const REPORT: u16 = (REPORT_MARK[0] as u16) * 256 + (REPORT_MARK[1] as u16);
+
+pub const PROPOSAL: u16 = (PROPOSAL_MARK[0] as u16) * 256 + (PROPOSAL_MARK[1] as u16);
+
+pub const REPORT_LENGTH: usize = 18;
+
+pub const JOINING: usize = 2;
+
+pub const LEAVING: usize = 10;
+
+pub const PROPOSAL_LENGTH: usize = 84;
+
+pub const SENDER: usize = 2;
+
+pub const KIND: usize = 3;
+
+pub const PROPOSAL_MEMBERS: usize = 4;
+
+pub const PROPOSAL_START: usize = 12;
+
+pub const PROPOSAL_NUMBER: usize = 16;
+
+pub const USED: usize = 20;
+
+pub const NOTICE_LENGTH: usize = 14;
+
+pub const NOTICE_START: usize = 2;
+
+pub const NOTICE_MEMBERS: usize = 6;
+
+pub const VIEW_LENGTH: usize = 78;
+
+pub const VIEW_NUMBER: usize = 2;
+
+pub const VIEW_MEMBERS: usize = 6;
+
+pub const STARTS: usize = 14;
