@@ -1,0 +1,259 @@
+-- The worked days at office 0 that document 01 marks with *: what comes of each by the rules, what the document says, and that they are equal.
+use mathlib.Core.Path.{_≡_, refl}
+use mathlib.Core.List.{List, [], _∷_, _++_}
+use Prim.Native.Nat.{ℕ, _+_}
+use lib.ListN.{length}
+use Rattle.laws.specs.Upd.{upd}
+use Rattle.laws.specs.Fin.{allb, anyb, largest}
+use Rattle.laws.specs.Tab.{tab}
+use Rattle.laws.specs.Big.{bytesAll}
+use Rattle.laws.specs.Bit.{bit}
+use Rattle.seats.specs.Seats.{has, unionOf, withoutOf, serves}
+use Rattle.records.specs.Layout.{encodeReport, decodeReport, encodeProposal, decodeProposal, encodeNotice, encodeView, markOf, formFor, formOf}
+use Rattle.records.specs.Layout.{checkFor, checkOf}
+use Rattle.rules.specs.State.{fast, slow}
+use Rattle.rules.specs.Rules.{Written, notice, proposal, view, andThen, fresh, netAfter, withNet, seated, opened, noticeOf, opens, nextNumber}
+use Rattle.rules.specs.Rules.{ownProposal, proposed, receives, proposesFast, received, matching, matchingSlow, aboveOwn, usesOwn, slowCalled}
+use Rattle.rules.specs.Rules.{joinedNumber, slowNumber, proposesSlow, slowTest, agreesKind, isNone, agreed, startOf, viewOf, concluded}
+use Rattle.rules.specs.Rules.{agreementTest, tests, reportRule, proposalRule}
+use Rattle.rules.specs.Refusals.{limit, Result, slotWithin, wellFormed, unreadable, eventOf, wrongSender, wrongKind, wrongNumber, withoutSeat}
+use Rattle.rules.specs.Refusals.{strayUsed, notAbove, usedAhead, proposalChecks, accepting, actOf, stepOf, allBytes}
+use Rattle.rules.specs.declared.State.{State}
+
+-- what is seen of a day: the refusal or 0, the bytes written, the records they are, the current view number
+pub record Day : Type 0 where
+  pub refusal : ℕ
+  pub bytes : ℕ
+  pub written : List Written
+  pub view : ℕ
+
+abbrev seen : Result → Day
+seen r =
+    record { refusal = r .refusal; bytes = length (allBytes (r .written)); written = r .written; view = r .state .view .number }
+
+-- the seats 0 and 4 as sets
+abbrev seat0 : ℕ
+seat0 = 0b1
+
+abbrev seat4 : ℕ
+seat4 = 0b10000
+
+abbrev both : ℕ
+both = 0b10001
+
+-- sixteen numbers, those of offices 0 and 1 first
+abbrev two : ℕ → ℕ → List ℕ
+two a b = a ∷ b ∷ tab 14 (λ o. 0)
+
+-- a record handed in, with the least output; to unfold it is to unfold the rules
+given : State → List ℕ → Result
+unfolding upd allb anyb largest tab bytesAll bit has unionOf withoutOf serves encodeReport decodeReport encodeProposal decodeProposal
+    encodeNotice encodeView markOf formFor formOf checkFor checkOf andThen fresh netAfter withNet seated opened noticeOf opens nextNumber
+    ownProposal proposed receives proposesFast received matching matchingSlow aboveOwn usesOwn slowCalled joinedNumber slowNumber proposesSlow
+    slowTest agreesKind isNone agreed startOf viewOf concluded agreementTest tests reportRule proposalRule slotWithin wellFormed unreadable
+    eventOf wrongSender wrongKind wrongNumber withoutSeat strayUsed notAbove usedAhead proposalChecks accepting actOf stepOf allBytes
+given s b = stepOf s b 182
+
+-- what is handed in: a report of joining seats, and P of document 01
+abbrev report : State → ℕ → Result
+report s joining = given s (encodeReport (record { joining = record { bits = joining }; leaving = record { bits = 0 } }))
+
+abbrev P : State → ℕ → ℕ → ℕ → ℕ → ℕ → Result
+P s kind start number used0 used1 =
+    given s
+    (encodeProposal
+    (record { sender = 1; kind = kind; members = record { bits = both }; start = start; number = number; used = two used0 used1 }))
+
+-- the days by the rules
+abbrev before : State
+before = fresh 0
+
+dayA : Result
+dayA = report before seat0
+
+dayB : Result
+dayB = report (dayA .state) seat4
+
+dayC : Result
+dayC = P (dayB .state) fast 1 1 0 0
+
+dayE : Result
+dayE = P (dayC .state) fast 3 2 2 1
+
+dayG : Result
+dayG = P (dayB .state) fast 3 2 2 1
+
+lateStart : Result
+lateStart = P (dayB .state) fast 5 1 0 0
+
+dayI : Result
+dayI = P before slow 1 5 0 0
+
+dayJ : Result
+dayJ = P before fast 1 1 0 0
+
+dayK : Result
+dayK = P before fast 1 limit 0 0
+
+pub computed : List Day
+computed =
+    seen dayA ∷ seen dayB ∷ seen dayC
+    ∷ seen (P (dayC .state) fast 1 1 0 0)
+    ∷ seen dayE
+    ∷ seen (P (dayE .state) slow 3 3 2 1)
+    ∷ seen dayG
+    ∷ seen (P (dayB .state) fast 1 1 3 0)
+    ∷ seen dayI ∷ seen (report (dayI .state) both)
+    ∷ seen dayJ ∷ seen (report (dayJ .state) both)
+    ∷ seen dayK ∷ seen (report (dayK .state) both) ∷ seen (P before fast 1 (limit + 1) 0 0)
+    ∷ seen (report (dayB .state) 0)
+    ∷ []
+
+-- the records of office 0
+abbrev aNotice : ℕ → ℕ → Written
+aNotice start members = notice (record { start = start; members = record { bits = members } })
+
+abbrev own : ℕ → ℕ → ℕ → ℕ → ℕ → Written
+own kind start number used0 used1 =
+    proposal
+    (record { sender = 0; kind = kind; members = record { bits = both }; start = start; number = number; used = two used0 used1 })
+
+abbrev aFast : ℕ → ℕ → ℕ → ℕ → Written
+aFast = own 1
+
+abbrev aSlow : ℕ → ℕ → ℕ → ℕ → Written
+aSlow = own 2
+
+abbrev aView : ℕ → ℕ → ℕ → ℕ → Written
+aView number members start0 start1 = view (record { number = number; members = record { bits = members }; starts = two start0 start1 })
+
+abbrev accepts : ℕ → List Written → ℕ → Day
+accepts bytes written current = record { refusal = 0; bytes = bytes; written = written; view = current }
+
+abbrev refuses : ℕ → ℕ → Day
+refuses refusal current = record { refusal = refusal; bytes = 0; written = []; view = current }
+
+-- the days as document 01 has them
+pub stated : List Day
+stated =
+    -- A: notice 1, view 2 with start 1; 92 bytes
+    accepts 92 (aNotice 1 seat0 ∷ aView 2 seat0 1 0 ∷ []) 2
+    -- B: notice 2, fast proposal number 2 with used 1, 0; 98 bytes
+    ∷ accepts 98 (aNotice 2 both ∷ aFast 2 2 1 0 ∷ []) 2
+    -- C: view 3, starts 2 and 1; 78 bytes
+    ∷ accepts 78 (aView 3 both 2 1 ∷ []) 3
+    -- D: 11
+    ∷ refuses 11 3
+    -- E: notice 3, slow proposal number 3; 98 bytes
+    ∷ accepts 98 (aNotice 3 both ∷ aSlow 3 3 2 1 ∷ []) 3
+    -- F: view 4, starts 3 and 3
+    ∷ accepts 78 (aView 4 both 3 3 ∷ []) 4
+    -- G: slow proposal number 3; 84 bytes
+    ∷ accepts 84 (aSlow 2 3 1 0 ∷ []) 2
+    -- H: 12
+    ∷ refuses 12 2
+    -- I: 0 bytes; then notice 1, fast number 6, slow number 7; 182 bytes
+    ∷ accepts 0 [] 0
+    ∷ accepts 182 (aNotice 1 both ∷ aFast 1 6 0 0 ∷ aSlow 1 7 0 0 ∷ []) 0
+    -- J: accepted; then notice 1, fast number 2, view 2; 176 bytes
+    ∷ accepts 0 [] 0
+    ∷ accepts 176 (aNotice 1 both ∷ aFast 1 2 0 0 ∷ aView 2 both 1 1 ∷ []) 2
+    -- K: accepted; then 13; with number L + 1, 8
+    ∷ accepts 0 [] 0
+    ∷ refuses 13 0
+    ∷ refuses 8 0
+    -- N: notice 3, fast proposal number 3; 98 bytes
+    ∷ accepts 98 (aNotice 3 both ∷ aFast 3 3 1 0 ∷ []) 2
+    ∷ []
+
+-- an equal entry, then the rest: each entry is compared by computing
+infixr 20 _then_
+_then_ : {A : Type 0} {a b : A} {l m : List A} → a ≡ b → l ≡ m → a ∷ l ≡ b ∷ m
+e then f = cc
+
+pub days : computed ≡ stated
+unfolding computed stated dayA dayB dayC dayE dayG dayI dayJ dayK given
+days =
+    refl then refl then refl then refl then refl then refl then refl then refl then refl then refl then refl then refl then refl then refl
+    then refl then refl then refl
+
+-- Further days, where document 01 decides against the paper's figure 7: the slow test looks at what is stored, and goes by its own cases.
+pub furtherComputed : List Day
+furtherComputed =
+    seen (P (dayG .state) fast 4 9 2 1)
+    ∷ seen (P (dayG .state) fast 4 4 3 2)
+    ∷ seen (P (dayG .state) slow 4 9 2 1)
+    ∷ seen (P (dayB .state) fast 3 9 2 1)
+    ∷ seen (P (dayB .state) slow 1 2 0 0)
+    ∷ seen (P (dayB .state) slow 1 5 0 0)
+    ∷ seen (P (dayC .state) slow 3 2 2 1)
+    ∷ seen (P (dayC .state) slow 3 5 2 1)
+    ∷ seen (report (dayC .state) 0)
+    ∷ seen lateStart ∷ seen (report (lateStart .state) 0)
+    ∷ []
+
+pub furtherStated : List Day
+furtherStated =
+    -- after G, a fast proposal with a higher number opens no new round
+    accepts 0 [] 2
+    -- after G, a used number that is the own one does, in mode slow too
+    ∷ accepts 84 (aSlow 2 5 1 0 ∷ []) 2
+    -- after G, a slow proposal with a higher number is joined, and agreed with
+    ∷ accepts 162 (aSlow 2 9 1 0 ∷ aView 5 both 2 4 ∷ []) 5
+    -- after B, the own number goes above a fast proposal's, never to it
+    ∷ accepts 84 (aSlow 2 10 1 0 ∷ []) 2
+    -- after B, a slow proposal whose number is not above the own one is not joined
+    ∷ accepts 84 (aSlow 2 3 1 0 ∷ []) 2
+    -- after B, one whose number is above is joined, and agreed with
+    ∷ accepts 162 (aSlow 2 5 1 0 ∷ aView 3 both 2 1 ∷ []) 3
+    -- after C, the same two in mode none: step 3 first
+    ∷ accepts 98 (aNotice 3 both ∷ aSlow 3 3 2 1 ∷ []) 3
+    ∷ accepts 176 (aNotice 3 both ∷ aSlow 3 5 2 1 ∷ aView 4 both 3 3 ∷ []) 4
+    -- after C, an empty report: the used proposals are gone, so no view
+    ∷ accepts 98 (aNotice 3 both ∷ aFast 3 3 2 1 ∷ []) 3
+    -- after B, a proposal with start number 5: view 6; then an empty report: the start number rises to the view number
+    ∷ accepts 78 (aView 6 both 2 5 ∷ []) 6
+    ∷ accepts 98 (aNotice 6 both ∷ aFast 6 3 2 1 ∷ []) 6
+    ∷ []
+
+pub readings : furtherComputed ≡ furtherStated
+unfolding furtherComputed furtherStated dayA dayB dayC dayG lateStart given
+readings = refl then refl then refl then refl then refl then refl then refl then refl then refl then refl then refl then refl
+
+-- An input for each reason to refuse from 2 to 10, at a fresh office 0: the smallest change to what would be accepted.
+abbrev from : ℕ → ℕ → ℕ → ℕ → ℕ → List ℕ → Result
+from sender kind members start number used =
+    given before
+    (encodeProposal
+    (record { sender = sender; kind = kind; members = record { bits = members }; start = start; number = number; used = used }))
+
+abbrev joined : List ℕ
+joined = encodeReport (record { joining = record { bits = seat0 }; leaving = record { bits = 0 } })
+
+pub refusals : List ℕ
+refusals =
+    stepOf (fresh 16) joined 182 .refusal
+    ∷ stepOf before joined 181 .refusal
+    ∷ given before [] .refusal
+    ∷ given before (0x53 ∷ 0x43 ∷ []) .refusal
+    ∷ given before (0x4e ∷ 0x45 ∷ []) .refusal
+    ∷ given before (joined ++ (0 ∷ [])) .refusal
+    ∷ from 16 fast both 1 1 (two 0 0) .refusal
+    ∷ from 0 fast both 1 1 (two 0 0) .refusal
+    ∷ from 1 0 both 1 1 (two 0 0) .refusal
+    ∷ from 1 3 both 1 1 (two 0 0) .refusal
+    ∷ from 1 fast both 0 1 (two 0 0) .refusal
+    ∷ from 1 fast both (limit + 1) 1 (two 0 0) .refusal
+    ∷ from 1 fast both 1 0 (two 0 0) .refusal
+    ∷ from 1 fast both 1 1 (two 0 (limit + 1)) .refusal
+    ∷ from 1 fast seat0 1 1 (two 0 0) .refusal
+    ∷ from 1 fast seat4 1 1 (two 0 0) .refusal
+    ∷ from 1 fast both 1 1 (0 ∷ 0 ∷ 1 ∷ tab 13 (λ o. 0)) .refusal
+    ∷ from 1 fast both 1 1 (two 0 0) .refusal
+    ∷ []
+
+pub each-reason : refusals ≡ 2 ∷ 3 ∷ 4 ∷ 4 ∷ 5 ∷ 5 ∷ 6 ∷ 6 ∷ 7 ∷ 7 ∷ 8 ∷ 8 ∷ 8 ∷ 8 ∷ 9 ∷ 9 ∷ 10 ∷ 0 ∷ []
+unfolding refusals given
+each-reason =
+    refl then refl then refl then refl then refl then refl then refl then refl then refl then refl then refl then refl then refl then refl
+    then refl then refl then refl then refl then refl

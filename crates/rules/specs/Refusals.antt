@@ -1,0 +1,139 @@
+-- The reasons to refuse, in checking order, and the step: what comes of any bytes on any state.
+use mathlib.Core.Bool.{Bool, true, false, _&&_, _||_, not}
+use mathlib.Core.List.{List, [], _∷_, _++_}
+use Prim.Native.Nat.{ℕ, _+_, _*_}
+use lib.ListN.{getD, length}
+use lib.Dec.{eqb, ltb, leb}
+use Rattle.laws.specs.Fin.{allb, anyb}
+use Rattle.laws.specs.Upd.{ifb}
+use Rattle.seats.specs.Seats.{serves}
+use Rattle.records.specs.Layout.{checkOf, markOf, decodeReport, decodeProposal, encodeReport, encodeProposal, encodeNotice, encodeView}
+use Rattle.records.specs.declared.Report.{Report}
+use Rattle.records.specs.declared.Proposal.{Proposal}
+use Rattle.rules.specs.declared.Slot.{Slot}
+use Rattle.rules.specs.declared.State.{State}
+use Rattle.rules.specs.State.{fast, slow, storedAt, acceptedAt, usedAt, usedFor}
+use Rattle.rules.specs.Rules.{Written, notice, proposal, view, Outcome, fresh, reportRule, proposalRule}
+
+-- L: no number in a state or record passes it
+abbrev pub limit : ℕ
+limit = 2_000_000_000
+
+abbrev pub within : ℕ → Bool
+within n = leb n limit
+
+-- the numbers of a stored proposal; an empty slot has none
+unfoldable pub slotWithin : Slot → Bool
+slotWithin v =
+    not (v .present)
+    || (within (v .proposal .start) && within (v .proposal .number) && allb 16 (λ o. within (usedFor (v .proposal) o)))
+
+-- check 2 passes: the own office is at most 15 and no number is above L
+unfoldable pub wellFormed : State → Bool
+wellFormed s =
+    leb (s .own) 15 && within (s .view .number) && within (s .start) && within (s .number)
+    && allb 16 (λ o. within (getD (s .view .starts) o 0)) && allb 16 (λ o. within (acceptedAt s o))
+    && allb 16 (λ o. within (usedAt s o)) && allb 16 (λ o. slotWithin (storedAt s o))
+
+-- a reason to refuse: its number, and whether it applies
+pub record Check : Type 0 where
+  pub number : ℕ
+  pub applies : Bool
+
+-- the first that applies, and 0 where none does
+abbrev pub firstOf : List Check → ℕ
+firstOf [] = 0
+firstOf (c ∷ cs) = ifb (c .applies) (c .number) (firstOf cs)
+
+-- 1, when a state is made: the fresh state of office 0 comes back with the number
+pub record Made : Type 0 where
+  pub refusal : ℕ
+  pub state : State
+
+unfoldable pub madeOf : ℕ → Made
+madeOf o = ifb (leb o 15) (record { refusal = 0; state = fresh o }) (record { refusal = 1; state = fresh 0 })
+
+-- 2 to 5, before the record is read
+unfoldable pub unreadable : State → List ℕ → ℕ → ℕ
+unreadable s b room =
+    firstOf (record { number = 2; applies = not (wellFormed s) } ∷ record { number = 3; applies = ltb room 182 }
+    ∷ record { number = checkOf b; applies = not (eqb (checkOf b) 0) } ∷ [])
+
+-- a record that was read
+pub data Event : Type 0 where
+  aReport : Report → Event
+  aProposal : Proposal → Event
+
+unfoldable pub eventOf : List ℕ → Event
+eventOf b = ifb (eqb (markOf b) 0x4e45) (aReport (decodeReport b)) (aProposal (decodeProposal b))
+
+-- 6 to 10 look at the proposal and the own office
+unfoldable pub wrongSender : State → Proposal → Bool
+wrongSender s p = ltb 15 (p .sender) || eqb (p .sender) (s .own)
+
+unfoldable pub wrongKind : Proposal → Bool
+wrongKind p = not (eqb (p .kind) fast || eqb (p .kind) slow)
+
+unfoldable pub wrongNumber : Proposal → Bool
+wrongNumber p =
+    eqb (p .start) 0 || ltb limit (p .start) || eqb (p .number) 0 || ltb limit (p .number)
+    || anyb 16 (λ o. ltb limit (usedFor p o))
+
+unfoldable pub withoutSeat : State → Proposal → Bool
+withoutSeat s p = not (serves (p .members .bits) (p .sender)) || not (serves (p .members .bits) (s .own))
+
+unfoldable pub strayUsed : Proposal → Bool
+strayUsed p = anyb 16 (λ o. not (serves (p .members .bits) o) && not (eqb (usedFor p o) 0))
+
+-- 11 and 12 look at what this office has accepted and proposed
+unfoldable pub notAbove : State → Proposal → Bool
+notAbove s p = leb (p .number) (acceptedAt s (p .sender))
+
+unfoldable pub usedAhead : State → Proposal → Bool
+usedAhead s p = ltb (s .number) (usedFor p (s .own))
+
+unfoldable pub proposalChecks : State → Proposal → List Check
+proposalChecks s p =
+    record { number = 6; applies = wrongSender s p } ∷ record { number = 7; applies = wrongKind p }
+    ∷ record { number = 8; applies = wrongNumber p } ∷ record { number = 9; applies = withoutSeat s p }
+    ∷ record { number = 10; applies = strayUsed p } ∷ record { number = 11; applies = notAbove s p }
+    ∷ record { number = 12; applies = usedAhead s p } ∷ []
+
+abbrev pub refusalOf : State → Event → ℕ
+refusalOf s (aReport r) = 0
+refusalOf s (aProposal p) = firstOf (proposalChecks s p)
+
+abbrev pub ruleOf : State → Event → Outcome
+ruleOf s (aReport r) = reportRule s r
+ruleOf s (aProposal p) = proposalRule s p
+
+-- what comes back: the refusal or 0, what was written, the state
+pub record Result : Type 0 where
+  pub refusal : ℕ
+  pub written : List Written
+  pub state : State
+
+abbrev pub refused : ℕ → State → Result
+refused n s = record { refusal = n; written = []; state = s }
+
+-- 13: the event would make a number above L, so that the state it leaves would not pass check 2
+unfoldable pub accepting : State → Outcome → Result
+accepting s o = ifb (wellFormed (o .state)) (record { refusal = 0; written = o .written; state = o .state }) (refused 13 s)
+
+-- acting on an event
+unfoldable pub actOf : State → Event → Result
+actOf s e = ifb (eqb (refusalOf s e) 0) (accepting s (ruleOf s e)) (refused (refusalOf s e) s)
+
+-- the step: the bytes of a record handed to a state, with an output of length room
+unfoldable pub stepOf : State → List ℕ → ℕ → Result
+stepOf s b room = ifb (eqb (unreadable s b room) 0) (actOf s (eventOf b)) (refused (unreadable s b room) s)
+
+-- the bytes written
+abbrev pub bytesOf : Written → List ℕ
+bytesOf (notice n) = encodeNotice n
+bytesOf (proposal p) = encodeProposal p
+bytesOf (view v) = encodeView v
+
+unfoldable pub allBytes : List Written → List ℕ
+allBytes [] = []
+allBytes (w ∷ ws) = bytesOf w ++ allBytes ws
