@@ -1,0 +1,438 @@
+// The program `room` beside the model, on plays of several offices and on damaged, cut and long inputs. `trace` prints the same
+// lines with the bytes written behind them. Arguments: the two programs. A case passes when all of its inputs agree; the first that
+// does not is kept as target/tests/room.input.
+#[path = "common/model.rs"]
+mod model;
+#[path = "common/play.rs"]
+mod play;
+#[path = "common/random.rs"]
+mod random;
+
+use model::{program, report, Office, Proposal, FAST, L, ROOM, SLOW};
+use play::{Habits, Play};
+use random::Random;
+use std::collections::BTreeMap;
+use std::fmt::Write as _;
+use std::fs::File;
+use std::io::Write as _;
+use std::process::{Command, Output, Stdio};
+use std::sync::atomic::{AtomicUsize, Ordering};
+use std::sync::Mutex;
+
+const THREADS: usize = 2;
+
+// What was reached, by the model: refusals, lengths written at acceptance, views at each office.
+#[derive(Clone, Default)]
+struct Reached {
+    inputs: usize,
+    records: usize,
+    refusals: BTreeMap<u8, usize>,
+    lengths: BTreeMap<usize, usize>,
+    views: [usize; 16],
+}
+
+impl Reached {
+    fn add(&mut self, other: &Reached) {
+        self.inputs += other.inputs;
+        self.records += other.records;
+        for (&refusal, n) in &other.refusals {
+            *self.refusals.entry(refusal).or_default() += n;
+        }
+        for (&length, n) in &other.lengths {
+            *self.lengths.entry(length).or_default() += n;
+        }
+        for (office, n) in other.views.iter().enumerate() {
+            self.views[office] += n;
+        }
+    }
+}
+
+// What the two programs are to print.
+struct Expected {
+    lines: String,
+    traced: String,
+}
+
+fn expected(input: &[u8], reached: &mut Reached) -> Expected {
+    let mut e = Expected { lines: String::new(), traced: String::new() };
+    reached.inputs += 1;
+    program(&mut &input[..], |line| {
+        let count = line.bytes.len();
+        reached.records += 1;
+        *reached.refusals.entry(line.refusal).or_default() += 1;
+        if line.refusal == 0 {
+            *reached.lengths.entry(count).or_default() += 1;
+            reached.views[input[0] as usize] += line.bytes.windows(2).any(|w| w == b"VW") as usize;
+        }
+        let text = format!("{} {} {count} {}", line.number, line.refusal, line.view);
+        writeln!(e.lines, "{text}").unwrap();
+        e.traced += &text;
+        if count > 0 {
+            e.traced.push(' ');
+        }
+        for byte in line.bytes {
+            e.traced.extend([byte / 16, byte % 16].map(|digit| char::from_digit(digit as u32, 16).unwrap()));
+        }
+        e.traced.push('\n');
+    });
+    e
+}
+
+// A way to hand an input to a program.
+#[derive(Clone, Copy, PartialEq)]
+enum Way {
+    File,
+    // in small pieces through a pipe
+    Pieces,
+}
+
+fn run(path: &str, input: &[u8], way: Way, file: &str) -> Output {
+    let mut command = Command::new(path);
+    command.stdout(Stdio::piped()).stderr(Stdio::piped());
+    match way {
+        Way::File => {
+            std::fs::write(file, input).unwrap();
+            command.stdin(File::open(file).unwrap()).output().unwrap()
+        }
+        Way::Pieces => {
+            let mut child = command.stdin(Stdio::piped()).spawn().unwrap();
+            let mut pipe = child.stdin.take().unwrap();
+            std::thread::scope(|scope| {
+                scope.spawn(move || {
+                    let mut random = Random(input.len() as u64 + 1);
+                    let mut rest = input;
+                    while !rest.is_empty() {
+                        let (piece, later) = rest.split_at(rest.len().min(1 + random.below(200)));
+                        // the program has stopped at a refused record
+                        if pipe.write_all(piece).is_err() {
+                            break;
+                        }
+                        rest = later;
+                        std::thread::yield_now();
+                    }
+                });
+                child.wait_with_output().unwrap()
+            })
+        }
+    }
+}
+
+struct Tests {
+    room: String,
+    trace: String,
+    all: Reached,
+    passed: usize,
+    failed: usize,
+}
+
+impl Tests {
+    fn check(&mut self, name: &str, holds: bool) {
+        if holds {
+            self.passed += 1;
+        } else {
+            self.failed += 1;
+            println!("{name}: FAILED");
+        }
+    }
+
+    // `count` inputs, each made from a generator of its own.
+    fn case(&mut self, name: &str, count: usize, way: Way, make: impl Fn(&mut Random, usize) -> Vec<u8> + Sync) {
+        let next = AtomicUsize::new(0);
+        let total = Mutex::new(Reached::default());
+        // the first input that differs: its place and the program
+        let differs: Mutex<Option<(usize, String)>> = Mutex::new(None);
+        let seed = name.bytes().fold(7_u64, |s, b| s.wrapping_mul(31).wrapping_add(b as u64));
+        let input_of = |k: usize| {
+            let mut random = Random((seed ^ k as u64).wrapping_mul(0x9e37_79b9_7f4a_7c15) | 1);
+            random.bytes(16);
+            make(&mut random, k)
+        };
+        std::thread::scope(|scope| {
+            for thread in 0..THREADS {
+                let (next, total, differs, input_of, tests) = (&next, &total, &differs, &input_of, &*self);
+                scope.spawn(move || {
+                    let file = format!("target/tests/room.input.{thread}");
+                    let mut reached = Reached::default();
+                    loop {
+                        let k = next.fetch_add(1, Ordering::Relaxed);
+                        if k >= count || differs.lock().unwrap().is_some() {
+                            break;
+                        }
+                        let input = input_of(k);
+                        let e = expected(&input, &mut reached);
+                        for (path, text) in [(&tests.room, &e.lines), (&tests.trace, &e.traced)] {
+                            let got = run(path, &input, way, &file);
+                            if !got.status.success() || got.stdout != text.as_bytes() || !got.stderr.is_empty() {
+                                std::fs::write("target/tests/room.expected", text).unwrap();
+                                std::fs::write("target/tests/room.got", &got.stdout).unwrap();
+                                let mut first = differs.lock().unwrap();
+                                if first.as_ref().is_none_or(|f| k < f.0) {
+                                    *first = Some((k, path.clone()));
+                                }
+                            }
+                        }
+                    }
+                    std::fs::remove_file(&file).ok();
+                    total.lock().unwrap().add(&reached);
+                });
+            }
+        });
+        self.all.add(&total.into_inner().unwrap());
+        let first = differs.into_inner().unwrap();
+        if let Some((k, path)) = &first {
+            std::fs::write("target/tests/room.input", input_of(*k)).unwrap();
+            println!("{name}: input {k}: {path} differs (target/tests/room.input, room.expected, room.got)");
+        }
+        self.check(name, first.is_none() && count > 0);
+    }
+}
+
+// Seats of one to six offices.
+fn some_pool(random: &mut Random) -> u64 {
+    let seats: u64 = (0..1 + random.below(6)).map(|_| 15_u64 << (4 * random.below(16))).fold(0, |a, b| a | b);
+    seats & (random.next() | random.next())
+}
+
+fn some_play(random: &mut Random, habits: Habits, records: usize) -> Play {
+    let pool = some_pool(random);
+    let kept = if pool == 0 || random.below(8) == 0 {
+        random.below(16)
+    } else {
+        let all: Vec<usize> = model::offices(pool).collect();
+        all[random.below(all.len())]
+    };
+    let mut play = Play::new(Random(random.next() | 1), habits, pool, kept);
+    play.go(records);
+    play
+}
+
+fn calm(random: &mut Random) -> Habits {
+    let rates = [0, 10, 40, 120];
+    Habits {
+        change: 5 + rates[random.below(4)],
+        own_report: rates[random.below(3)],
+        loss: rates[random.below(4)],
+        swap: rates[random.below(3)],
+        forged: 0,
+        damaged: 0,
+    }
+}
+
+fn forging(random: &mut Random) -> Habits {
+    Habits { forged: 100 + random.below(400), damaged: random.below(60), ..calm(random) }
+}
+
+fn damaging(random: &mut Random) -> Habits {
+    Habits { forged: random.below(200), damaged: 200 + random.below(300), ..calm(random) }
+}
+
+fn a_play(random: &mut Random, habits: fn(&mut Random) -> Habits, records: usize) -> Vec<u8> {
+    let habits = habits(random);
+    some_play(random, habits, records).input
+}
+
+// The numbers near L: an office hears of one, and goes on.
+fn near_the_ceiling(random: &mut Random) -> Vec<u8> {
+    let habits = forging(random);
+    let begun = random.below(10);
+    let mut play = some_play(random, habits, begun);
+    let o = *play.office();
+    for sender in model::offices(o.net).filter(|&k| k != o.own) {
+        let mut used = [0; 16];
+        used[sender] = [0, L][random.below(2)];
+        let near = |random: &mut Random| [1, L - random.below(3) as u32, L][random.below(3)];
+        let (start, number) = (near(random), near(random));
+        let kind = [FAST, SLOW][random.below(2)];
+        play.hand(o.own, &Proposal { sender: sender as u8, kind, members: o.net, start, number, used }.bytes());
+    }
+    play.go(begun + 4 + random.below(30));
+    play.input
+}
+
+// A play with its end cut off, bytes behind it, or a byte changed.
+fn spoiled(random: &mut Random) -> Vec<u8> {
+    let records = 1 + random.below(12);
+    let mut input = a_play(random, forging, records);
+    match random.below(5) {
+        0 => input.truncate(random.below(input.len())),
+        1 => {
+            let length = 1 + random.below(100);
+            input.extend(random.bytes(length));
+        }
+        2 => {
+            let mark = [*b"NE", *b"PR", *b"SC", *b"VW", *b"EN", *b"RP"][random.below(6)];
+            input.extend(mark);
+            let length = [random.below(90), 12, 16, 76, 82][random.below(5)];
+            input.extend(random.bytes(length));
+        }
+        3 => {
+            let at = 1 + random.below(input.len() - 1);
+            input[at] = random.next() as u8;
+        }
+        _ => {
+            let at = 1 + random.below(input.len() - 1);
+            input.remove(at);
+        }
+    }
+    input
+}
+
+fn random_bytes(random: &mut Random) -> Vec<u8> {
+    let length = 1 + random.below(300);
+    let mut input = random.bytes(length);
+    input[0] &= if random.below(4) == 0 { 31 } else { 15 };
+    let mut at = 1;
+    while at + 2 <= input.len() && random.below(6) != 0 {
+        let mark = [*b"NE", *b"PR"][random.below(2)];
+        input[at..at + 2].copy_from_slice(&mark);
+        at += model::mark_length(&mark).unwrap();
+    }
+    input
+}
+
+// P of the worked days: sender 1, members {0, 4}.
+fn p(kind: u8, start: u32, number: u32, used_0: u32, used_1: u32) -> Vec<u8> {
+    let mut used = [0; 16];
+    (used[0], used[1]) = (used_0, used_1);
+    Proposal { sender: 1, kind, members: 0x11, start, number, used }.bytes()
+}
+
+// Own proposals of the worked days: sender 0, members {0, 4}.
+fn own(kind: u8, start: u32, number: u32, used_0: u32, used_1: u32) -> Vec<u8> {
+    let mut record = p(kind, start, number, used_0, used_1);
+    record[2] = 0;
+    record
+}
+
+fn notice(start: u32, members: u64) -> Vec<u8> {
+    [&b"SC"[..], &start.to_be_bytes(), &members.to_be_bytes()].concat()
+}
+
+fn view(number: u32, members: u64, start_0: u32, start_1: u32) -> Vec<u8> {
+    let head = [&b"VW"[..], &number.to_be_bytes(), &members.to_be_bytes(), &start_0.to_be_bytes(), &start_1.to_be_bytes()];
+    [&head.concat()[..], &[0; 56]].concat()
+}
+
+// The worked days at office 0, and where Moshe and document 01 differ: the records, and what the last is answered.
+fn worked_days() -> Vec<(Vec<Vec<u8>>, u8, Vec<u8>)> {
+    let a = vec![report(0x01, 0)];
+    let after = |before: &Vec<Vec<u8>>, record: Vec<u8>| [&before[..], &[record]].concat();
+    let b = after(&a, report(0x10, 0));
+    let c = after(&b, p(FAST, 1, 1, 0, 0));
+    let e = after(&c, p(FAST, 3, 2, 2, 1));
+    let g = after(&b, p(FAST, 3, 2, 2, 1));
+    let i = vec![p(SLOW, 1, 5, 0, 0)];
+    let j = vec![p(FAST, 1, 1, 0, 0)];
+    let k = vec![p(FAST, 1, L, 0, 0)];
+    let m = vec![report(0x01, 0x01)];
+    let both = report(0x11, 0);
+    let day = |records: &Vec<Vec<u8>>, refusal: u8, written: &[Vec<u8>]| (records.clone(), refusal, written.concat());
+    vec![
+        day(&a, 0, &[notice(1, 0x01), view(2, 0x01, 1, 0)]),
+        day(&b, 0, &[notice(2, 0x11), own(FAST, 2, 2, 1, 0)]),
+        day(&c, 0, &[view(3, 0x11, 2, 1)]),
+        day(&after(&c, p(FAST, 1, 1, 0, 0)), 11, &[]),
+        day(&e, 0, &[notice(3, 0x11), own(SLOW, 3, 3, 2, 1)]),
+        day(&after(&e, p(SLOW, 3, 3, 2, 1)), 0, &[view(4, 0x11, 3, 3)]),
+        day(&g, 0, &[own(SLOW, 2, 3, 1, 0)]),
+        day(&after(&b, p(FAST, 1, 1, 3, 0)), 12, &[]),
+        day(&i, 0, &[]),
+        day(&after(&i, both.clone()), 0, &[notice(1, 0x11), own(FAST, 1, 6, 0, 0), own(SLOW, 1, 7, 0, 0)]),
+        day(&after(&j, both.clone()), 0, &[notice(1, 0x11), own(FAST, 1, 2, 0, 0), view(2, 0x11, 1, 1)]),
+        day(&k, 0, &[]),
+        day(&after(&k, both), 13, &[]),
+        day(&vec![p(FAST, 1, L + 1, 0, 0)], 8, &[]),
+        day(&m, 0, &[]),
+        day(&after(&m, report(0x10, 0)), 0, &[]),
+        day(&after(&b, report(0, 0)), 0, &[notice(3, 0x11), own(FAST, 3, 3, 1, 0)]),
+        day(&vec![report(0x01, 0)[..17].to_vec()], 5, &[]),
+        day(&vec![[&report(0x01, 0)[..], &[0]].concat()], 5, &[]),
+        day(&vec![vec![]], 4, &[]),
+        day(&after(&g, p(FAST, 4, 9, 2, 1)), 0, &[]),
+        day(&after(&g, p(FAST, 4, 4, 3, 2)), 0, &[own(SLOW, 2, 5, 1, 0)]),
+        day(&after(&b, p(FAST, 3, 9, 2, 1)), 0, &[own(SLOW, 2, 10, 1, 0)]),
+        day(&after(&b, p(SLOW, 1, 2, 0, 0)), 0, &[own(SLOW, 2, 3, 1, 0)]),
+        day(&after(&c, p(SLOW, 3, 2, 2, 1)), 0, &[notice(3, 0x11), own(SLOW, 3, 3, 2, 1)]),
+        day(&after(&c, report(0, 0)), 0, &[notice(3, 0x11), own(FAST, 3, 3, 2, 1)]),
+    ]
+}
+
+fn model_on_worked_days() -> bool {
+    worked_days().into_iter().all(|(records, refusal, written)| {
+        let mut office = Office::fresh(0);
+        let mut out = Vec::new();
+        let answers: Vec<u8> = records.iter().map(|record| office.step(record, ROOM, &mut out)).collect();
+        *answers.last().unwrap() == refusal && out == written
+    })
+}
+
+// Checks 2 and 3, which no input of the program reaches.
+fn model_on_checks_2_and_3() -> bool {
+    let (record, mut out) = (report(0x01, 0), Vec::new());
+    let mut above = [Office::fresh(16), Office::fresh(0), Office::fresh(0)];
+    above[1].accepted[15] = L + 1;
+    above[2].stored[7] = Some(Proposal { sender: 7, kind: FAST, members: 0, start: L + 1, number: 0, used: [0; 16] });
+    above.iter_mut().all(|o| o.step(&record, 0, &mut out) == 2)
+        && Office::fresh(15).step(&[], ROOM - 1, &mut out) == 3
+        && Office::fresh(15).step(&record, ROOM, &mut out) == 0
+}
+
+fn main() {
+    let paths: Vec<String> = std::env::args().skip(1).collect();
+    let [room, trace] = <[String; 2]>::try_from(paths).expect("arguments: the programs room and trace");
+    std::fs::create_dir_all("target/tests").unwrap();
+    let mut t = Tests { room, trace, all: Reached::default(), passed: 0, failed: 0 };
+
+    t.check("the model on the worked days", model_on_worked_days());
+    t.check("the model on checks 2 and 3", model_on_checks_2_and_3());
+
+    let days = worked_days();
+    t.case("worked days", days.len(), Way::File, |_, k| [&[0][..], &days[k].0.concat()].concat());
+    t.case("no office", 1, Way::File, |_, _| vec![]);
+    t.case("each office byte alone", 256, Way::File, |_, k| vec![k as u8]);
+    t.case("each office byte and a report of all seats", 256, Way::File, |_, k| {
+        [&[k as u8][..], &report(u64::MAX, 0)].concat()
+    });
+    t.case("plays", 7000, Way::File, |r, _| {
+        let records = 1 + r.below(60);
+        a_play(r, calm, records)
+    });
+    t.case("plays with forged proposals", 5000, Way::File, |r, _| {
+        let records = 1 + r.below(40);
+        a_play(r, forging, records)
+    });
+    t.case("plays with damaged proposals", 4000, Way::File, |r, _| {
+        let records = 1 + r.below(40);
+        a_play(r, damaging, records)
+    });
+    t.case("plays near the ceiling", 2000, Way::File, |r, _| near_the_ceiling(r));
+    t.case("spoiled plays", 3000, Way::File, |r, _| spoiled(r));
+    t.case("random bytes", 1000, Way::File, |r, _| random_bytes(r));
+
+    let long: Vec<Vec<u8>> = (0..4).map(|k| a_play(&mut Random(100 + k), forging, 20_000)).collect();
+    t.case("long plays", long.len(), Way::File, |_, k| long[k].clone());
+    // the ends go through each place of a record, before and behind a buffer's
+    t.case("ends around 64 KiB", 100, Way::File, |_, k| long[0][..65_536 - 50 + k].to_vec());
+    t.case("ends around 128 KiB", 100, Way::File, |_, k| long[1][..131_072 - 50 + k].to_vec());
+    t.case("in pieces", 200, Way::Pieces, |r, _| {
+        let records = 1 + r.below(300);
+        a_play(r, forging, records)
+    });
+    t.case("long, in pieces", 2, Way::Pieces, |_, k| long[2 + k].clone());
+
+    let all = t.all.clone();
+    println!("room: {} inputs, {} records compared", all.inputs, all.records);
+    println!("refusals: {:?}", all.refusals);
+    println!("lengths: {:?}", all.lengths);
+    println!("views at each office: {:?}", all.views);
+    t.check("20,000 inputs", all.inputs >= 20_000);
+    for refusal in (0..14).filter(|n| ![2, 3].contains(n)) {
+        t.check(&format!("refusal {refusal} reached"), all.refusals.contains_key(&refusal));
+    }
+    for length in [0, 78, 84, 92, 98, 162, 176, 182] {
+        t.check(&format!("{length} bytes written"), all.lengths.contains_key(&length));
+    }
+    t.check("views at every office", all.views.iter().all(|&n| n > 0));
+    println!("{} passed, {} failed", t.passed, t.failed);
+    std::process::exit((t.failed != 0) as i32);
+}
