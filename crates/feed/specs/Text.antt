@@ -62,6 +62,13 @@ pub record TracePut (b o : List ℕ) (at next : ℕ) (o′ : List ℕ) : Type 0 
   pub put : Put o at (traceOf b) next o′
   pub short : next ≤ at + 2 * length b + 1
 
+-- a whole line: the numbers, the bytes shown behind them, and its end
+pub record Printed (number refusal written view : ℕ) (shown o : List ℕ) (next : ℕ) (o′ : List ℕ) : Type 0 where
+  pub from : ℕ
+  pub text : List ℕ
+  pub is : Line number refusal written view text
+  pub put : Put o from (text ++ (traceOf shown ++ (10 ∷ []))) next o′
+
 -- one more byte of a text
 pub put-more : (o : List ℕ) (at i : ℕ) (b : List ℕ) → i < length b
     → set (sets o at (take i b)) (at + i) (getD b i 0) ≡ sets o at (take (i + 1) b)
@@ -167,4 +174,13 @@ trace-put [] h e = absurd (not-suc-le-zero h)
 trace-put (x ∷ b) h e = record {
   put = record { place = let f = e .place in omega arith; output = rw add-one at (e .output) };
   short = let f = e .place in let l = hex-length (x ∷ b) in omega arith;
+}
+
+pub printed : {number refusal written view : ℕ} {shown o p q : List ℕ} {at a b : ℕ} → LinePut number refusal written view o at a p
+    → TracePut shown p a b q → Printed number refusal written view shown o (b + 1) (set q b 10)
+printed {at = at} l t = record {
+  from = at;
+  text = l .text;
+  is = l .is;
+  put = put-then (l .put) (put-then (t .put) (record { place = refl; output = refl }));
 }

@@ -3,10 +3,12 @@ use rules::State;
 use text::put_line;
 use text::put_trace;
 ghost use mathlib.Core.Path.{_≡_};
-ghost use Prim.Native.Nat.{_+_, _<_, _≤_, _^_};
+ghost use Prim.Native.Nat.{_+_, _-_, _<_, _≤_, _^_};
 ghost use lib.ListN.{length, take, drop};
 ghost use lib.Seq.{sets};
-ghost use Rattle.feed.specs.Place.{Within};
+ghost use Rattle.laws.specs.Upd.{ifb};
+ghost use Rattle.feed.specs.Text.{Printed};
+ghost use Rattle.feed.specs.Place.{Within, frontOf, goesOn, Answered};
 
 mod text;
 
@@ -82,7 +84,7 @@ fn waits(p: Place, input: &[u8]) -> bool
 // The record in front; the rest of the input where it is refused by 4 or 5.
 fn front<'a>(input: &'a [u8], at: usize, end: usize) -> &'a [u8]
     requires { ⌜ (at ≤ end) × (end ≤ length (now input)) ⌝ }
-    ensures { λ r. ⌜ at + length (now r) ≤ end ⌝ }
+    ensures { λ r. ⌜ (now r ≡ frontOf (take (end - at) (drop at (now (input .entry))))) × (at + length (now r) ≤ end) ⌝ }
 {
     let run = &input[at..end];
     if records::run_check(run) == 0 {
@@ -137,7 +139,7 @@ fn print(
     shown: &[u8],
 ) -> usize
     requires { ⌜ (filled ≤ 65536) × (length (now output) ≡ 65536) × (length (now shown) ≤ 182) ⌝ }
-    ensures { λ r. ⌜ r ≤ 65536 ⌝ }
+    ensures { λ r. ⌜ (r ≤ 65536) × Printed number refusal written view (now (shown .entry)) (now (output .entry)) r (now (output .exit)) ⌝ }
 {
     let at = flushed(output, filled);
     let a = put_line(output, at, number, refusal, written, view);
@@ -148,7 +150,7 @@ fn print(
 
 // How many of the bytes written a line shows.
 fn shown(traced: bool, written: usize) -> usize
-    ensures { λ r. ⌜ r ≤ written ⌝ }
+    ensures { λ r. ⌜ (r ≡ ifb traced written 0) × (r ≤ written) ⌝ }
 {
     if traced { written } else { 0 }
 }
@@ -156,7 +158,7 @@ fn shown(traced: bool, written: usize) -> usize
 // After a record of n bytes.
 fn passed(p: Place, n: usize, filled: usize) -> Place
     requires { ⌜ Within p × (p .at + n ≤ p .end) × (filled ≤ 65536) × (p .number + 1 < 2 ^ 64) ⌝ }
-    ensures { λ r. ⌜ Within r × (r .number ≡ p .number + 1) ⌝ }
+    ensures { λ r. ⌜ Within r × (r .number ≡ p .number + 1) × (r .filled ≡ filled) ⌝ }
 {
     Place {
         ended: p.ended,
@@ -167,10 +169,21 @@ fn passed(p: Place, n: usize, filled: usize) -> Place
     }
 }
 
+// After 4 or 5 the program stops.
+fn goes_on(refusal: u8) -> bool
+    ensures { λ r. ⌜ r ≡ goesOn refusal ⌝ }
+{
+    if refusal == 4 {
+        return false;
+    }
+    refusal != 5
+}
+
 // The step on a record, and its line.
 fn answer(state: State, p: Place, record: &[u8], output: &mut [u8], traced: bool) -> Turned
     requires { ⌜ Within p × (p .at + length (now «record») ≤ p .end) × (length (now output) ≡ 65536) × (p .number + 1 < 2 ^ 64) ⌝ }
-    ensures { λ r. ⌜ Within (r .place) × (r .place .number ≡ p .number + 1) ⌝ }
+    ensures { λ r. ⌜ Within (r .place) × (r .place .number ≡ p .number + 1)
+        × Answered state (now («record» .entry)) traced (p .number + 1) (now (output .entry)) r (now (output .exit)) ⌝ }
 {
     let mut out = [0u8; 182];
     let a = step::step(state, record, &mut out);
@@ -188,7 +201,7 @@ fn answer(state: State, p: Place, record: &[u8], output: &mut [u8], traced: bool
     );
     let place = passed(p, record.len(), filled);
     Turned {
-        more: a.refusal != 4 && a.refusal != 5,
+        more: goes_on(a.refusal),
         place,
         state: after,
     }

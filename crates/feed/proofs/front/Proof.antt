@@ -1,6 +1,6 @@
 use borrow.Author.Needs.{needs}
 use native.Mathlib.Omega.{arith}
-use Rattle.feed.specs.Place.{first-short}
+use Rattle.feed.specs.Place.{first-short, front-first, front-all}
 use Rattle.feed.proofs.front.Statement.{statement}
 use Rattle.feed.proofs.front.Tie as tie
 
@@ -21,11 +21,12 @@ run-first-requires c κs = search needs
 
 returns : tie.Need-returns
 returns c =
-    let s = first-short _ (c .run-first .ensures .is) in
-    omega arith
+    let f = c .run-first .ensures .is in
+    let s = first-short _ f in
+    (front-first _ _ (c .before .before .run-check .ensures) (c .before .if1 .taken) f, omega arith)
 
 returns-2 : tie.Need-returns-2
-returns-2 c = search needs
+returns-2 c = (front-all _ _ (c .before .run-check .ensures) (c .if1 .left), search needs)
 
 pub front-spec : {M : Type 1} → statement M
 front-spec =

@@ -1,6 +1,7 @@
 use borrow.Author.Needs.{needs}
 use mathlib.Core.Path.{_∙_}
 use lib.ListN.{length-set}
+use Rattle.feed.specs.Text.{printed}
 use Rattle.feed.proofs.print.Statement.{statement}
 use Rattle.feed.proofs.print.Tie as tie
 
@@ -25,7 +26,9 @@ same-length c =
     length-set (t .last .0) (t .result) 10 ∙ (t .kept .0 ∙ c .before .before .before .before .before .before .put-line .kept .0)
 
 returns : tie.Need-returns
-returns c = search needs
+returns c =
+    let l = c .before .before .before .before .before .before .put-line in
+    (search needs, printed (l .ensures) (c .before .before .put-trace .ensures))
 
 pub print-spec : {M : Type 1} → statement M
 print-spec =
