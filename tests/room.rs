@@ -78,7 +78,7 @@ fn expected(input: &[u8], reached: &mut Reached) -> Expected {
     e
 }
 
-// A way to hand an input to a program.
+// A way to hand an input to a program; a file that holds it is there in any case.
 #[derive(Clone, Copy, PartialEq)]
 enum Way {
     File,
@@ -90,10 +90,7 @@ fn run(path: &str, input: &[u8], way: Way, file: &str) -> Output {
     let mut command = Command::new(path);
     command.stdout(Stdio::piped()).stderr(Stdio::piped());
     match way {
-        Way::File => {
-            std::fs::write(file, input).unwrap();
-            command.stdin(File::open(file).unwrap()).output().unwrap()
-        }
+        Way::File => command.stdin(File::open(file).unwrap()).output().unwrap(),
         Way::Pieces => {
             let mut child = command.stdin(Stdio::piped()).spawn().unwrap();
             let mut pipe = child.stdin.take().unwrap();
@@ -115,6 +112,14 @@ fn run(path: &str, input: &[u8], way: Way, file: &str) -> Output {
             })
         }
     }
+}
+
+// The first input of a case on which a program differs.
+struct Difference {
+    at: usize,
+    path: String,
+    expected: String,
+    got: Vec<u8>,
 }
 
 struct Tests {
@@ -139,8 +144,7 @@ impl Tests {
     fn case(&mut self, name: &str, count: usize, way: Way, make: impl Fn(&mut Random, usize) -> Vec<u8> + Sync) {
         let next = AtomicUsize::new(0);
         let total = Mutex::new(Reached::default());
-        // the first input that differs: its place and the program
-        let differs: Mutex<Option<(usize, String)>> = Mutex::new(None);
+        let differs: Mutex<Option<Difference>> = Mutex::new(None);
         let seed = name.bytes().fold(7_u64, |s, b| s.wrapping_mul(31).wrapping_add(b as u64));
         let input_of = |k: usize| {
             let mut random = Random((seed ^ k as u64).wrapping_mul(0x9e37_79b9_7f4a_7c15) | 1);
@@ -160,14 +164,13 @@ impl Tests {
                         }
                         let input = input_of(k);
                         let e = expected(&input, &mut reached);
+                        std::fs::write(&file, &input).unwrap();
                         for (path, text) in [(&tests.room, &e.lines), (&tests.trace, &e.traced)] {
                             let got = run(path, &input, way, &file);
                             if !got.status.success() || got.stdout != text.as_bytes() || !got.stderr.is_empty() {
-                                std::fs::write("target/tests/room.expected", text).unwrap();
-                                std::fs::write("target/tests/room.got", &got.stdout).unwrap();
                                 let mut first = differs.lock().unwrap();
-                                if first.as_ref().is_none_or(|f| k < f.0) {
-                                    *first = Some((k, path.clone()));
+                                if first.as_ref().is_none_or(|f| k < f.at) {
+                                    *first = Some(Difference { at: k, path: path.clone(), expected: text.clone(), got: got.stdout });
                                 }
                             }
                         }
@@ -179,9 +182,14 @@ impl Tests {
         });
         self.all.add(&total.into_inner().unwrap());
         let first = differs.into_inner().unwrap();
-        if let Some((k, path)) = &first {
-            std::fs::write("target/tests/room.input", input_of(*k)).unwrap();
-            println!("{name}: input {k}: {path} differs (target/tests/room.input, room.expected, room.got)");
+        if let Some(d) = &first {
+            println!("{name}: input {}: {} differs", d.at, d.path);
+            if self.failed == 0 {
+                println!("kept: target/tests/room.input, room.expected, room.got");
+                std::fs::write("target/tests/room.input", input_of(d.at)).unwrap();
+                std::fs::write("target/tests/room.expected", &d.expected).unwrap();
+                std::fs::write("target/tests/room.got", &d.got).unwrap();
+            }
         }
         self.check(name, first.is_none() && count > 0);
     }
