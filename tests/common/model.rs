@@ -1,4 +1,4 @@
-// The office of document 01, its step and its program, written from that document alone. Numbers are those of the document, and
+// The office of document 01, its step and its program, written from that document. Numbers are those of the document, and
 // the parts stand in its order.
 use std::io::Read;
 
