@@ -1,7 +1,11 @@
-// What the desk program asks, with plain numbers and byte buffers; include/room.h declares it for C.
+// What a C program calls, with plain numbers and buffers; include/room.h declares it.
 ghost use mathlib.Core.Path.{_≡_};
+ghost use Prim.Native.Nat.{_≤_};
 ghost use Rattle.records.specs.Layout.{checkOf};
 ghost use Rattle.seats.specs.Seats.{officesOf};
+ghost use Rattle.rules.specs.Refusals.{fullRoom};
+ghost use Rattle.step.specs.Step.{freshRow};
+ghost use Rattle.capi.specs.Calls.{answerOf, callOf};
 use seats::SeatSet;
 
 // The number by checks 4 and 5 for some bytes; 0 where they pass both.
@@ -18,4 +22,35 @@ pub extern "C" fn room_offices(set: u64) -> u16
     ensures { λ r. ⌜ r ≡ officesOf set ⌝ }
 {
     SeatSet { bits: set }.offices()
+}
+
+// Makes a state in the words lent.
+#[no_mangle]
+pub extern "C" fn room_fresh(office: u8, state: &mut [u32]) -> u8
+    ensures { λ r. ⌜ record { refusal = r; words = now (state .exit) } ≡ freshRow office (now (state .entry)) ⌝ }
+{
+    step::fresh(office, state)
+}
+
+fn wide(x: u8) -> u32
+    ensures { λ r. ⌜ r ≡ x ⌝ }
+{
+    x as u32
+}
+
+fn answer(written: usize, refusal: u8) -> u32
+    requires { ⌜ written ≤ fullRoom ⌝ }
+    ensures { λ r. ⌜ r ≡ answerOf written refusal ⌝ }
+{
+    256 * (written as u32) + wide(refusal)
+}
+
+// Hands a record to the state in the words lent.
+#[no_mangle]
+pub extern "C" fn room_step(state: &mut [u32], record: &[u8], out: &mut [u8]) -> u32
+    ensures { λ r. ⌜ record { answer = r; words = now (state .exit); bytes = now (out .exit) }
+        ≡ callOf (now (state .entry)) (now («record» .entry)) (now (out .entry)) ⌝ }
+{
+    let stepped = step::step(state, record, out);
+    answer(stepped.written, stepped.refusal)
 }

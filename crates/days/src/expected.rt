@@ -10,7 +10,7 @@ pub fn nothing() -> [u8; 182] {
 // An own proposal of the worked days.
 pub fn proposal_alone(kind: u8, start: u32, number: u32, used_0: u32, used_1: u32) -> [u8; 182] {
     let mut out = nothing();
-    records::write_proposal(&mut out, 0, of(0, kind, start, number, used_0, used_1));
+    proposal_writer::write_proposal(&mut out, 0, of(0, kind, start, number, used_0, used_1));
     out
 }
 
@@ -26,7 +26,7 @@ pub fn notice_and_proposal(
         start,
         members: SeatSet { bits: 0x11 },
     };
-    let at = records::write_notice(&mut out, 0, n);
-    records::write_proposal(&mut out, at, of(0, kind, start, number, used_0, used_1));
+    let at = writers::write_notice(&mut out, 0, n);
+    proposal_writer::write_proposal(&mut out, at, of(0, kind, start, number, used_0, used_1));
     out
 }

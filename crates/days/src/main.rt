@@ -4,76 +4,39 @@ use expected::nothing;
 use expected::notice_and_proposal;
 use expected::proposal_alone;
 use make::FAST;
+use make::L;
 use make::SLOW;
+use make::WORDS;
+use make::high;
 use make::proposal;
-use make::proposal_bytes;
 use make::report;
-use records::Proposal;
-use rules::State;
-use seats::SeatSet;
+use states::after;
+use states::after_b;
+use states::after_c;
+use states::after_g;
+use states::fresh;
+use tries::accepted;
+use tries::refused;
+use tries::refused_proposal;
+use tries::refused_short;
+use tries::same_words;
+use tries::say;
 
 mod expected;
 mod make;
-
-const L: u32 = 2000000000;
-
-fn say(name: &[u8], good: bool) {
-    io::write_all(1, name);
-    if good {
-        io::write_all(1, b": ok\n");
-    } else {
-        io::write_all(1, b": WRONG\n");
-    }
-}
-
-// One event with an output of 182 bytes: the number, and all that the output holds after it.
-fn try_step(name: &[u8], state: State, record: &[u8], refusal: u8, want: &[u8]) {
-    let mut out = nothing();
-    let a = step::step(state, record, &mut out);
-    say(name, a.refusal == refusal && check::same(&out, want));
-}
-
-fn refused(name: &[u8], state: State, record: &[u8], refusal: u8) {
-    try_step(name, state, record, refusal, &nothing());
-}
-
-fn fresh() -> State {
-    let made = step::fresh(0);
-    made.state
-}
-
-fn after(state: State, record: &[u8]) -> State {
-    let mut out = nothing();
-    let a = step::step(state, record, &mut out);
-    a.state
-}
-
-fn after_a() -> State {
-    after(fresh(), &report(0x01, 0))
-}
-
-fn after_b() -> State {
-    after(after_a(), &report(0x10, 0))
-}
-
-fn after_c() -> State {
-    after(after_b(), &proposal(FAST, 1, 1, 0, 0))
-}
-
-fn after_g() -> State {
-    after(after_b(), &proposal(FAST, 3, 2, 2, 1))
-}
+mod states;
+mod tries;
 
 fn day_m() {
     let both = report(0x01, 0x01);
-    try_step(
+    accepted(
         b"M, a seat both joining and leaving",
         fresh(),
         &both,
         0,
         &nothing(),
     );
-    try_step(
+    accepted(
         b"M, then a seat of another office alone",
         after(fresh(), &both),
         &report(0x10, 0),
@@ -83,37 +46,50 @@ fn day_m() {
 }
 
 fn offices() {
-    let last = step::fresh(15);
-    let last_state = last.state;
-    say(
-        b"office 15 is made",
-        last.refusal == 0 && last_state.own == 15,
-    );
-    let none = step::fresh(16);
-    let none_state = none.state;
+    let mut last = [170u32; WORDS];
+    let made = step::fresh(15, &mut last);
+    say(b"office 15 is made", made == 0 && last[0] == 15);
+    let mut none = [170u32; WORDS];
+    let refusal = step::fresh(16, &mut none);
     say(
         b"office 16 gets 1, and the state of office 0",
-        none.refusal == 1 && none_state.own == 0,
+        refusal == 1 && same_words(none, fresh()),
     );
 }
 
-fn lengths() {
+fn rows() {
+    let mut short = [170u32; 424];
+    let refusal = step::fresh(0, &mut short);
+    say(
+        b"a state in 424 words gets 2",
+        refusal == 2 && short[0] == 170 && short[423] == 170,
+    );
+    let mut out = nothing();
+    let a = step::step(&mut short, &report(0x01, 0), &mut out);
+    say(
+        b"a record on 424 words gets 2",
+        a.refusal == 2 && a.written == 0 && short[0] == 170 && short[423] == 170,
+    );
+}
+
+fn outputs() {
+    let mut row = fresh();
     let mut short = [170u8; 181];
-    let a = step::step(fresh(), &report(0x01, 0), &mut short);
+    let a = step::step(&mut row, &report(0x01, 0), &mut short);
     say(
         b"an output of 181 bytes gets 3",
         a.refusal == 3 && a.written == 0 && check::same(&short, &[170u8; 181]),
     );
     let mut full = nothing();
-    let b = step::step(
-        after(fresh(), &proposal(SLOW, 1, 5, 0, 0)),
-        &report(0x11, 0),
-        &mut full,
-    );
+    let mut stored = after(fresh(), &proposal(SLOW, 1, 5, 0, 0));
+    let b = step::step(&mut stored, &report(0x11, 0), &mut full);
     say(
         b"an output of 182 bytes serves",
         b.refusal == 0 && b.written == 182,
     );
+}
+
+fn lengths() {
     refused(
         b"a report of 17 bytes gets 5",
         fresh(),
@@ -126,128 +102,155 @@ fn lengths() {
         b"NE\x00\x00\x00\x00\x00\x00\x00\x01\x00\x00\x00\x00\x00\x00\x00\x00\x00",
         5,
     );
+}
+
+fn no_records() {
     refused(b"an empty record gets 4", fresh(), &[], 4);
     refused(b"one byte gets 4", fresh(), b"N", 4);
 }
 
-// A number above L in the state, or an own office above 15.
-fn malformed() {
-    let mut high = fresh();
-    high.number = L + 1;
+// A number above L in the state.
+fn high_numbers() {
+    let joins = report(0x01, 0);
     refused(
         b"a proposal number above L in the state gets 2",
-        high,
-        &report(0x01, 0),
+        high(fresh(), make::NUMBER, L + 1),
+        &joins,
         2,
     );
-    let mut top = fresh();
-    top.number = L;
     refused(
         b"L itself passes, and the next number gets 13",
-        top,
-        &report(0x01, 0),
+        high(fresh(), make::NUMBER, L),
+        &joins,
         13,
     );
-    let mut seen = fresh();
-    seen.accepted[15] = L + 1;
     refused(
         b"a number last accepted above L gets 2",
-        seen,
-        &report(0x01, 0),
+        high(fresh(), make::ACCEPTED_15, L + 1),
+        &joins,
         2,
     );
-    let mut stray = fresh();
-    stray.own = 16;
+}
+
+fn own_office() {
+    let stray = high(fresh(), make::OWN, 16);
     refused(b"an own office above 15 gets 2", stray, &report(0x01, 0), 2);
-    let mut out = [170u8; 1];
-    let a = step::step(stray, &[], &mut out);
-    say(b"2 before 3 and 4", a.refusal == 2 && a.written == 0);
+    refused_short(b"2 before 3 and 4", stray, &[], 2);
+}
+
+// Words that are no state, and a number that does not count.
+fn other_words() {
+    let joins = report(0x01, 0);
+    refused(
+        b"a mode of 3 gets 2",
+        high(fresh(), make::MODE, 3),
+        &joins,
+        2,
+    );
+    refused(
+        b"a presence of 2 gets 2",
+        high(fresh(), make::PRESENT_15, 2),
+        &joins,
+        2,
+    );
+    refused_short(
+        b"a number above L behind an empty slot passes check 2",
+        high(fresh(), make::STORED_NUMBER_15, L + 1),
+        &joins,
+        3,
+    );
 }
 
 // Each proposal is wrong in all that comes after the number it gets.
-fn order() {
-    let mut small = [170u8; 1];
-    let a = step::step(fresh(), b"??", &mut small);
-    say(b"3 before 4", a.refusal == 3 && small[0] == 170);
+fn order_of_forms() {
+    refused_short(b"3 before 4", fresh(), b"??", 3);
     refused(b"4 before 5", fresh(), b"??", 4);
     refused(b"5 before 6", fresh(), b"PR\x10\x00", 5);
-    let mut used = [0u32; 16];
-    used[0] = 9;
-    used[2] = L + 1;
-    let mut p = Proposal {
-        sender: 0,
-        kind: 0,
-        members: SeatSet { bits: 0x1 },
-        start: 0,
-        number: L,
-        used,
-    };
+}
+
+fn order_6_7() {
     let s = after(after_b(), &proposal(FAST, 1, L, 0, 0));
-    refused(b"6 before 7", s, &proposal_bytes(p), 6);
-    p.sender = 1;
-    refused(b"7 before 8", s, &proposal_bytes(p), 7);
-    p.kind = SLOW;
-    refused(b"8 before 9", s, &proposal_bytes(p), 8);
-    p.start = 1;
-    refused(b"8 for a used number above L", s, &proposal_bytes(p), 8);
-    used[2] = 1;
-    p.used = used;
-    refused(b"9 before 10", s, &proposal_bytes(p), 9);
-    let members = SeatSet { bits: 0x11 };
-    p.members = members;
-    refused(b"10 before 11", s, &proposal_bytes(p), 10);
-    used[2] = 0;
-    p.used = used;
-    refused(b"11 before 12", s, &proposal_bytes(p), 11);
-    refused(b"12 before 13", after_b(), &proposal_bytes(p), 12);
-    used[0] = 2;
-    p.used = used;
-    p.kind = FAST;
-    refused(b"13 comes last", after_b(), &proposal_bytes(p), 13);
+    refused_proposal(b"6 before 7", s, 0, 0, 0x01, 0, 9, L + 1, 6);
+    refused_proposal(b"7 before 8", s, 1, 0, 0x01, 0, 9, L + 1, 7);
+}
+
+fn order_8() {
+    let s = after(after_b(), &proposal(FAST, 1, L, 0, 0));
+    refused_proposal(b"8 before 9", s, 1, SLOW, 0x01, 0, 9, L + 1, 8);
+    refused_proposal(
+        b"8 for a used number above L",
+        s,
+        1,
+        SLOW,
+        0x01,
+        1,
+        9,
+        L + 1,
+        8,
+    );
+}
+
+fn order_9_10() {
+    let s = after(after_b(), &proposal(FAST, 1, L, 0, 0));
+    refused_proposal(b"9 before 10", s, 1, SLOW, 0x01, 1, 9, 1, 9);
+    refused_proposal(b"10 before 11", s, 1, SLOW, 0x11, 1, 9, 1, 10);
+}
+
+fn order_11() {
+    let s = after(after_b(), &proposal(FAST, 1, L, 0, 0));
+    refused_proposal(b"11 before 12", s, 1, SLOW, 0x11, 1, 9, 0, 11);
+    refused_proposal(b"12 before 13", after_b(), 1, SLOW, 0x11, 1, 9, 0, 12);
+    refused_proposal(b"13 comes last", after_b(), 1, FAST, 0x11, 1, 2, 0, 13);
 }
 
 // The slow test looks at every stored matching proposal of the other offices, and once per event.
-fn against_moshe() {
-    try_step(
+fn rounds_after_g() {
+    accepted(
         b"after G, a later fast proposal opens no new round",
         after_g(),
         &proposal(FAST, 4, 9, 2, 1),
         0,
         &nothing(),
     );
-    try_step(
+    accepted(
         b"after G, the own number used in mode slow",
         after_g(),
         &proposal(FAST, 4, 4, 3, 2),
-        0,
+        84,
         &proposal_alone(SLOW, 2, 5, 1, 0),
     );
-    try_step(
+}
+
+fn rounds_after_b() {
+    accepted(
         b"after B, 1 + the largest",
         after_b(),
         &proposal(FAST, 3, 9, 2, 1),
-        0,
+        84,
         &proposal_alone(SLOW, 2, 10, 1, 0),
     );
-    try_step(
+    accepted(
         b"after B, a slow number that is not above the own one",
         after_b(),
         &proposal(SLOW, 1, 2, 0, 0),
-        0,
+        84,
         &proposal_alone(SLOW, 2, 3, 1, 0),
     );
-    try_step(
+}
+
+fn rounds_after_c() {
+    accepted(
         b"after C, a slow proposal",
         after_c(),
         &proposal(SLOW, 3, 2, 2, 1),
-        0,
+        98,
         &notice_and_proposal(SLOW, 3, 3, 2, 1),
     );
-    try_step(
+    accepted(
         b"after C, an empty report",
         after_c(),
         &report(0, 0),
-        0,
+        98,
         &notice_and_proposal(FAST, 3, 3, 2, 1),
     );
 }
@@ -255,8 +258,19 @@ fn against_moshe() {
 fn main() {
     day_m();
     offices();
+    rows();
+    outputs();
     lengths();
-    malformed();
-    order();
-    against_moshe();
+    no_records();
+    high_numbers();
+    own_office();
+    other_words();
+    order_of_forms();
+    order_6_7();
+    order_8();
+    order_9_10();
+    order_11();
+    rounds_after_g();
+    rounds_after_b();
+    rounds_after_c();
 }

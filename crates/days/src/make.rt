@@ -1,11 +1,36 @@
-// Records that are handed to office 0, as bytes.
+// Records that are handed to office 0, as bytes, and states with a word changed, by docs/LAYOUT.md.
 use records::Proposal;
 use records::Report;
 use seats::SeatSet;
+ghost use Prim.Native.Nat.{_<_};
 
 pub const FAST: u8 = 1;
 
 pub const SLOW: u8 = 2;
+
+pub const L: u32 = 2_000_000_000;
+
+pub const WORDS: usize = 425;
+
+pub const OWN: usize = 0;
+
+pub const MODE: usize = 1;
+
+pub const PRESENT_15: usize = 81;
+
+pub const NUMBER: usize = 87;
+
+pub const ACCEPTED_15: usize = 120;
+
+pub const STORED_NUMBER_15: usize = 408;
+
+pub fn high(state: [u32; WORDS], place: usize, word: u32) -> [u32; WORDS]
+    requires { ⌜ place < 425 ⌝ }
+{
+    let mut row = state;
+    row[place] = word;
+    row
+}
 
 pub fn report(joining: u64, leaving: u64) -> [u8; 18] {
     let mut bytes = [0u8; 18];
@@ -13,7 +38,7 @@ pub fn report(joining: u64, leaving: u64) -> [u8; 18] {
         joining: SeatSet { bits: joining },
         leaving: SeatSet { bits: leaving },
     };
-    records::write_report(&mut bytes, 0, r);
+    writers::write_report(&mut bytes, 0, r);
     bytes
 }
 
@@ -34,11 +59,26 @@ pub fn of(sender: u8, kind: u8, start: u32, number: u32, used_0: u32, used_1: u3
 
 pub fn proposal_bytes(p: Proposal) -> [u8; 84] {
     let mut bytes = [0u8; 84];
-    records::write_proposal(&mut bytes, 0, p);
+    proposal_writer::write_proposal(&mut bytes, 0, p);
     bytes
 }
 
 // P of the worked days.
 pub fn proposal(kind: u8, start: u32, number: u32, used_0: u32, used_1: u32) -> [u8; 84] {
     proposal_bytes(of(1, kind, start, number, used_0, used_1))
+}
+
+// A proposal with number L and used numbers for offices 0 and 2.
+pub fn wrong(sender: u8, kind: u8, members: u64, start: u32, used_0: u32, used_2: u32) -> [u8; 84] {
+    let mut used = [0u32; 16];
+    used[0] = used_0;
+    used[2] = used_2;
+    proposal_bytes(Proposal {
+        sender,
+        kind,
+        members: SeatSet { bits: members },
+        start,
+        number: L,
+        used,
+    })
 }

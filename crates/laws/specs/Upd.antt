@@ -1,13 +1,7 @@
--- Update at a place, of a function and of a list: one law by cases, one for what is kept.
-use mathlib.Core.Path.{_≡_, refl, sym, ap, _∙_, fun-ext}
+-- A choice by a test, and a function changed at one place.
 use mathlib.Core.Bool.{Bool, true, false}
-use mathlib.Core.List.{List}
-use Prim.Native.Nat.{ℕ, zero, suc, _+_, _≤_, _<_}
-use native.Mathlib.Decide.{ℕ-discrete}
-use lib.ListN.{length, getD, set, length-set}
-use lib.Seq.{getD-set-same, getD-set-other}
+use Prim.Native.Nat.{ℕ}
 use lib.Dec.{eqb}
-use borrow.Author.Tests.{eq-eqb, ne-eqb}
 
 module _ {A : Type 0} where
   abbrev pub ifb : Bool → A → A → A
@@ -16,54 +10,3 @@ module _ {A : Type 0} where
 
   unfoldable pub upd : (ℕ → A) → ℕ → A → ℕ → A
   upd f i v j = ifb (eqb j i) v (f j)
-
-  pub upd-same : (f : ℕ → A) (i : ℕ) (v : A) → upd f i v i ≡ v
-  unfolding upd
-  upd-same f i v = rw (eq-eqb i i refl)
-
-  pub upd-other : (f : ℕ → A) (i : ℕ) (v : A) (j : ℕ) → (j ≡ i → ⊥) → upd f i v j ≡ f j
-  unfolding upd
-  upd-other f i v j n = rw (ne-eqb j i n)
-
-  -- by cases: at i, and elsewhere
-  pub upd-cases {ℓ} : (P : ℕ → A → Type ℓ) (f : ℕ → A) (i : ℕ) (v : A) (j : ℕ) → P i v → ((j ≡ i → ⊥) → P j (f j)) → P j (upd f i v j)
-  upd-cases P f i v j at other = go (ℕ-discrete j i)
-    where
-      go : Dec (j ≡ i) → P j (upd f i v j)
-      go (yes e) = rw (e, upd-same) at
-      go (no n) = rw (upd-other f i v j n) (other n)
-
-  -- two functions that agree at a place agree there after the same update
-  pub upd-agree : (f g : ℕ → A) (i : ℕ) (v : A) (j : ℕ) → f j ≡ g j → upd f i v j ≡ upd g i v j
-  unfolding upd
-  upd-agree f g i v j e = ap (ifb (eqb j i) v) e
-
-  -- what the new value has in common with the old one at i, the whole keeps
-  pub upd-keeps : {B : Type 0} (g : A → B) (f : ℕ → A) (i : ℕ) (v : A) → g v ≡ g (f i) → (j : ℕ) → g (upd f i v j) ≡ g (f j)
-  upd-keeps g f i v e j = upd-cases (λ (k : ℕ) (a : A). g a ≡ g (f k)) f i v j e (λ n. refl)
-
-  -- the same of a list
-  pub set-cases {ℓ} : (d : A) (P : ℕ → A → Type ℓ) (l : List A) (i : ℕ) (v : A) (j : ℕ) → i < length l → P i v → ((j ≡ i → ⊥) → P j (getD l j d)) → P j (getD (set l i v) j d)
-  set-cases d P l i v j lt at other = go (ℕ-discrete j i)
-    where
-      go : Dec (j ≡ i) → P j (getD (set l i v) j d)
-      go (yes e) = rw (e, getD-set-same l i v d lt) at
-      go (no n) = rw (getD-set-other l i j v d n) (other n)
-
-  pub set-keeps : {B : Type 0} (d : A) (g : A → B) (l : List A) (i : ℕ) (v : A) → i < length l → g v ≡ g (getD l i d) → (j : ℕ) → g (getD (set l i v) j d) ≡ g (getD l j d)
-  set-keeps d g l i v lt e j = set-cases d (λ (k : ℕ) (a : A). g a ≡ g (getD l k d)) l i v j lt e (λ n. refl)
-
--- a list's entries as a function
-pub set-upd : {A : Type 0} (d : A) (l : List A) (i : ℕ) (v : A) → i < length l → _≡_ {A = ℕ → A} (λ j. getD (set l i v) j d) (upd (λ j. getD l j d) i v)
-set-upd d l i v lt = fun-ext (λ j. set-cases d (λ k a. a ≡ upd (λ j. getD l j d) i v k) l i v j lt
-    (sym (upd-same (λ j. getD l j d) i v)) (λ n. sym (upd-other (λ j. getD l j d) i v j n)))
-
--- a field of each of an array of records
-module _ {A B : Type 0} (g : A → B) where
-  pub upd-map : (f : ℕ → A) (i : ℕ) (v : A) → _≡_ {A = ℕ → B} (λ j. g (upd f i v j)) (upd (λ j. g (f j)) i (g v))
-  upd-map f i v = fun-ext (λ j. upd-cases (λ (k : ℕ) (a : A). g a ≡ upd (λ m. g (f m)) i (g v) k) f i v j
-      (sym (upd-same (λ m. g (f m)) i (g v))) (λ n. sym (upd-other (λ m. g (f m)) i (g v) j n)))
-
-  -- where the new value agrees with the old one, the array is the same
-  pub upd-map-same : (f : ℕ → A) (i : ℕ) (v : A) → g v ≡ g (f i) → _≡_ {A = ℕ → B} (λ j. g (upd f i v j)) (λ j. g (f j))
-  upd-map-same f i v e = fun-ext (λ j. upd-cases (λ (k : ℕ) (a : A). g a ≡ g (f k)) f i v j e (λ n. refl))

@@ -1,1 +1,1 @@
-// General theory that several layers share; see specs/. No code.
+// General theory that several layers share: definitions in specs/, their laws in proofs/. No code.

@@ -1,56 +1,65 @@
-// The state of one office in one room, and what the rules do to it.
-use records::Notice;
+// What an accepted event does, inner to the layer of the step: the rules on the row of words of one office in one room, changed in place,
+// and the records written behind one another.
+use agreement::agreement_test;
+use parts::opens;
+use parts::receive;
+use proposing::proposes_fast;
 use records::Proposal;
-use records::View;
-use rules::State;
+use records::Report;
+use slow_test::slow_test;
+ghost use mathlib.Core.Bool.{true};
+ghost use mathlib.Core.Path.{_≡_};
+ghost use Prim.Native.Nat.{_≤_, _<_};
+ghost use lib.ListN.{length};
+ghost use Rattle.rules.specs.Rules.{tests, reportRule, proposalRule};
+ghost use Rattle.rules.specs.Refusals.{limit, fullRoom, wellFormed};
+ghost use Rattle.row.specs.Row.{Row, stateOf};
+ghost use Rattle.parts.specs.Did.{Did, Fits};
+ghost use Rattle.parts.specs.Bounds.{early, Bounded};
+ghost use Rattle.parts.specs.Parts.{fastRound};
 
-mod agreement;
-mod bounds;
-mod events;
-mod making;
-mod numbers;
-mod parts;
-mod slow;
-
-pub use bounds::LIMIT;
-pub use bounds::well_formed;
-pub use events::proposal_rule;
-pub use events::report_rule;
-pub use making::fresh;
-pub use parts::FAST;
-pub use parts::SLOW;
-
-// What making a state answers: 0, or the number 1 with the fresh state of office 0.
-pub struct Made {
-    pub refusal: u8,
-    pub state: State,
+fn tests(s: &mut [u32], out: &mut [u8], at: usize) -> usize
+    requires { ⌜ Row (now s) × Bounded early (stateOf (now s)) × Fits tests (now s) (now out) at ⌝ }
+    ensures { λ n. ⌜ Did tests (now (s .entry)) (now (out .entry)) at (now (s .exit)) (now (out .exit)) n ⌝ }
+{
+    let next = slow_test(s, out, at);
+    agreement_test(s, out, next)
 }
 
-// What the slow test asks of the matching proposals: whether there is a slow one, one that uses the own number, a slow one
-// above the own number, and the largest number of these last.
-pub struct Look {
-    pub slow: bool,
-    pub uses: bool,
-    pub above: bool,
-    pub joined: u32,
+// A report at an office with a seat in the net view.
+fn fast_round(s: &mut [u32], out: &mut [u8]) -> usize
+    requires { ⌜ Row (now s) × Bounded limit (stateOf (now s)) × Fits fastRound (now s) (now out) 0 ⌝ }
+    ensures { λ n. ⌜ Did fastRound (now (s .entry)) (now (out .entry)) 0 (now (s .exit)) (now (out .exit)) n ⌝ }
+{
+    let noticed = opens(s, out, 0);
+    let made = proposes_fast(s, out, noticed);
+    tests(s, out, made)
 }
 
-// After the slow test: the state, and the slow proposal where one was made.
-pub struct Slowed {
-    pub state: State,
-    pub written: bool,
-    pub proposal: Proposal,
+pub fn act_on_report(s: &mut [u32], r: Report, out: &mut [u8]) -> usize
+    requires { ⌜ Row (now s) × (wellFormed (stateOf (now s)) ≡ true) × (fullRoom ≤ length (now out)) ⌝ }
+    ensures { λ n. ⌜ Did (λ u. reportRule u r) (now (s .entry)) (now (out .entry)) 0 (now (s .exit)) (now (out .exit)) n ⌝ }
+{
+    let old = row::net(s);
+    let net = old.union(r.joining).without(r.leaving);
+    let own = row::own(s);
+    row_changes::set_net(s, net);
+    if !net.serves(own) {
+        return 0;
+    }
+    fast_round(s, out)
 }
 
-// What an accepted event leaves: the state, and what is written, in this order, each if its flag says so.
-pub struct Acted {
-    pub state: State,
-    pub noticed: bool,
-    pub notice: Notice,
-    pub first_written: bool,
-    pub first: Proposal,
-    pub second_written: bool,
-    pub second: Proposal,
-    pub viewed: bool,
-    pub view: View,
+pub fn act_on_proposal(s: &mut [u32], p: Proposal, out: &mut [u8]) -> usize
+    requires { ⌜ Row (now s) × (wellFormed (stateOf (now s)) ≡ true) × (fullRoom ≤ length (now out)) ⌝ }
+    requires { ⌜ (p .sender < 16) × (p .start ≤ limit) × (p .number ≤ limit) ⌝ }
+    ensures { λ n. ⌜ Did (λ u. proposalRule u p) (now (s .entry)) (now (out .entry)) 0 (now (s .exit)) (now (out .exit)) n ⌝ }
+{
+    let net = row::net(s);
+    let members = p.members;
+    receive(s, p);
+    if !members.equals(net) {
+        return 0;
+    }
+    tests(s, out, 0)
 }

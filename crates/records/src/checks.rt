@@ -2,12 +2,12 @@
 use crate::Form;
 use crate::RecordKind;
 use crate::layout;
-use crate::numbers::get16;
+use byte_numbers::get16;
 ghost use mathlib.Core.Path.{_≡_};
-ghost use Rattle.records.specs.Layout.{markOf, formFor, formOf, checkFor, checkOf, checkOwn};
+ghost use Rattle.records.specs.Layout.{markOf, formFor, formOf, checkFor, checkOf};
 
 // The value of the mark that bytes start with; 0, which is no record's, where there are under two.
-fn mark_value(bytes: &[u8]) -> u16
+pub fn mark_of(bytes: &[u8]) -> u16
     ensures { λ r. ⌜ r ≡ markOf (now (bytes .entry)) ⌝ }
 {
     if bytes.len() < 2 {
@@ -40,7 +40,7 @@ fn form_for(value: u16) -> Form
 pub fn form_of(bytes: &[u8]) -> Form
     ensures { λ r. ⌜ r ≡ formOf (now (bytes .entry)) ⌝ }
 {
-    form_for(mark_value(bytes))
+    form_for(mark_of(bytes))
 }
 
 // Checks 4 and 5 where the mark calls for `n` bytes, 0 where it is refused.
@@ -59,15 +59,4 @@ pub fn check(bytes: &[u8]) -> u8
 {
     let f = form_of(bytes);
     check_for(f.length, bytes)
-}
-
-// The same two checks on a record's own mark and its own length.
-pub fn check_own(mark: &[u8; 2], n: usize, bytes: &[u8]) -> u8
-    ensures { λ r. ⌜ r ≡ checkOwn (now (mark .entry)) n (now (bytes .entry)) ⌝ }
-{
-    if mark_value(bytes) == get16(mark[0], mark[1]) {
-        check_for(n, bytes)
-    } else {
-        check_for(0, bytes)
-    }
 }

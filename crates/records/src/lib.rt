@@ -3,25 +3,16 @@
 use seats::SeatSet;
 
 pub mod checks;
-mod layout;
-mod numbers;
-pub mod readers;
-pub mod runs;
-pub mod writers;
+pub mod layout;
 
 pub use checks::check;
 pub use checks::form_of;
-pub use readers::read_notice;
-pub use readers::read_proposal;
-pub use readers::read_report;
-pub use readers::read_view;
-pub use runs::run_check;
-pub use runs::run_first;
-pub use runs::run_rest;
-pub use writers::write_notice;
-pub use writers::write_proposal;
-pub use writers::write_report;
-pub use writers::write_view;
+pub use checks::mark_of;
+
+// The two kinds of a proposal.
+pub const FAST: u8 = 1;
+
+pub const SLOW: u8 = 2;
 
 // What an office is told of its seats: Moshe's notification of the network event mechanism.
 pub struct Report {
@@ -60,25 +51,4 @@ pub enum RecordKind {
 pub struct Form {
     pub kind: RecordKind,
     pub length: usize,
-}
-
-// What a reader answers: the number by checks 4 and 5, and the record, zeros where it is refused.
-pub struct ReportRead {
-    pub refusal: u8,
-    pub report: Report,
-}
-
-pub struct ProposalRead {
-    pub refusal: u8,
-    pub proposal: Proposal,
-}
-
-pub struct NoticeRead {
-    pub refusal: u8,
-    pub notice: Notice,
-}
-
-pub struct ViewRead {
-    pub refusal: u8,
-    pub view: View,
 }

@@ -1,5 +1,4 @@
--- The worked days at office 0 that document 01 marks with *: what comes of each by the rules, what the document says, and that they are equal.
-use mathlib.Core.Path.{_≡_, refl}
+-- The worked days at office 0 that document 01 marks with *: what comes of each by the rules, and what the document says.
 use mathlib.Core.List.{List, [], _∷_, _++_}
 use Prim.Native.Nat.{ℕ, _+_}
 use lib.ListN.{length}
@@ -11,14 +10,13 @@ use Rattle.laws.specs.Bit.{bit}
 use Rattle.seats.specs.Seats.{has, unionOf, withoutOf, serves}
 use Rattle.records.specs.Layout.{encodeReport, decodeReport, encodeProposal, decodeProposal, encodeNotice, encodeView, markOf, formFor, formOf}
 use Rattle.records.specs.Layout.{checkFor, checkOf}
-use Rattle.rules.specs.State.{fast, slow}
+use Rattle.rules.specs.State.{State, fast, slow}
 use Rattle.rules.specs.Rules.{Written, notice, proposal, view, andThen, fresh, netAfter, withNet, seated, opened, noticeOf, opens, nextNumber}
 use Rattle.rules.specs.Rules.{ownProposal, proposed, receives, proposesFast, received, matching, matchingSlow, aboveOwn, usesOwn, slowCalled}
 use Rattle.rules.specs.Rules.{joinedNumber, slowNumber, proposesSlow, slowTest, agreesKind, isNone, agreed, startOf, viewOf, concluded}
 use Rattle.rules.specs.Rules.{agreementTest, tests, reportRule, proposalRule}
 use Rattle.rules.specs.Refusals.{limit, Result, slotWithin, wellFormed, unreadable, eventOf, wrongSender, wrongKind, wrongNumber, withoutSeat}
 use Rattle.rules.specs.Refusals.{strayUsed, notAbove, usedAhead, proposalChecks, accepting, actOf, stepOf, allBytes}
-use Rattle.rules.specs.declared.State.{State}
 
 -- what is seen of a day: the refusal or 0, the bytes written, the records they are, the current view number
 pub record Day : Type 0 where
@@ -46,7 +44,7 @@ abbrev two : ℕ → ℕ → List ℕ
 two a b = a ∷ b ∷ tab 14 (λ o. 0)
 
 -- a record handed in, with the least output; to unfold it is to unfold the rules
-given : State → List ℕ → Result
+unfoldable pub given : State → List ℕ → Result
 unfolding upd allb anyb largest tab bytesAll bit has unionOf withoutOf serves encodeReport decodeReport encodeProposal decodeProposal
     encodeNotice encodeView markOf formFor formOf checkFor checkOf andThen fresh netAfter withNet seated opened noticeOf opens nextNumber
     ownProposal proposed receives proposesFast received matching matchingSlow aboveOwn usesOwn slowCalled joinedNumber slowNumber proposesSlow
@@ -68,34 +66,34 @@ P s kind start number used0 used1 =
 abbrev before : State
 before = fresh 0
 
-dayA : Result
+unfoldable pub dayA : Result
 dayA = report before seat0
 
-dayB : Result
+unfoldable pub dayB : Result
 dayB = report (dayA .state) seat4
 
-dayC : Result
+unfoldable pub dayC : Result
 dayC = P (dayB .state) fast 1 1 0 0
 
-dayE : Result
+unfoldable pub dayE : Result
 dayE = P (dayC .state) fast 3 2 2 1
 
-dayG : Result
+unfoldable pub dayG : Result
 dayG = P (dayB .state) fast 3 2 2 1
 
-lateStart : Result
+unfoldable pub lateStart : Result
 lateStart = P (dayB .state) fast 5 1 0 0
 
-dayI : Result
+unfoldable pub dayI : Result
 dayI = P before slow 1 5 0 0
 
-dayJ : Result
+unfoldable pub dayJ : Result
 dayJ = P before fast 1 1 0 0
 
-dayK : Result
+unfoldable pub dayK : Result
 dayK = P before fast 1 limit 0 0
 
-pub computed : List Day
+unfoldable pub computed : List Day
 computed =
     seen dayA ∷ seen dayB ∷ seen dayC
     ∷ seen (P (dayC .state) fast 1 1 0 0)
@@ -134,7 +132,7 @@ abbrev refuses : ℕ → ℕ → Day
 refuses refusal current = record { refusal = refusal; bytes = 0; written = []; view = current }
 
 -- the days as document 01 has them
-pub stated : List Day
+unfoldable pub stated : List Day
 stated =
     -- A: notice 1, view 2 with start 1; 92 bytes
     accepts 92 (aNotice 1 seat0 ∷ aView 2 seat0 1 0 ∷ []) 2
@@ -166,19 +164,8 @@ stated =
     ∷ accepts 98 (aNotice 3 both ∷ aFast 3 3 1 0 ∷ []) 2
     ∷ []
 
--- an equal entry, then the rest: each entry is compared by computing
-infixr 20 _then_
-_then_ : {A : Type 0} {a b : A} {l m : List A} → a ≡ b → l ≡ m → a ∷ l ≡ b ∷ m
-e then f = cc
-
-pub days : computed ≡ stated
-unfolding computed stated dayA dayB dayC dayE dayG dayI dayJ dayK given
-days =
-    refl then refl then refl then refl then refl then refl then refl then refl then refl then refl then refl then refl then refl then refl
-    then refl then refl then refl
-
 -- Further days, where document 01 decides against the paper's figure 7: the slow test looks at what is stored, and goes by its own cases.
-pub furtherComputed : List Day
+unfoldable pub furtherComputed : List Day
 furtherComputed =
     seen (P (dayG .state) fast 4 9 2 1)
     ∷ seen (P (dayG .state) fast 4 4 3 2)
@@ -192,7 +179,7 @@ furtherComputed =
     ∷ seen lateStart ∷ seen (report (lateStart .state) 0)
     ∷ []
 
-pub furtherStated : List Day
+unfoldable pub furtherStated : List Day
 furtherStated =
     -- after G, a fast proposal with a higher number opens no new round
     accepts 0 [] 2
@@ -216,10 +203,6 @@ furtherStated =
     ∷ accepts 98 (aNotice 6 both ∷ aFast 6 3 2 1 ∷ []) 6
     ∷ []
 
-pub readings : furtherComputed ≡ furtherStated
-unfolding furtherComputed furtherStated dayA dayB dayC dayG lateStart given
-readings = refl then refl then refl then refl then refl then refl then refl then refl then refl then refl then refl then refl
-
 -- An input for each reason to refuse from 2 to 10, at a fresh office 0: the smallest change to what would be accepted.
 abbrev from : ℕ → ℕ → ℕ → ℕ → ℕ → List ℕ → Result
 from sender kind members start number used =
@@ -230,7 +213,7 @@ from sender kind members start number used =
 abbrev joined : List ℕ
 joined = encodeReport (record { joining = record { bits = seat0 }; leaving = record { bits = 0 } })
 
-pub refusals : List ℕ
+unfoldable pub refusals : List ℕ
 refusals =
     stepOf (fresh 16) joined 182 .refusal
     ∷ stepOf before joined 181 .refusal
@@ -252,8 +235,6 @@ refusals =
     ∷ from 1 fast both 1 1 (two 0 0) .refusal
     ∷ []
 
-pub each-reason : refusals ≡ 2 ∷ 3 ∷ 4 ∷ 4 ∷ 5 ∷ 5 ∷ 6 ∷ 6 ∷ 7 ∷ 7 ∷ 8 ∷ 8 ∷ 8 ∷ 8 ∷ 9 ∷ 9 ∷ 10 ∷ 0 ∷ []
-unfolding refusals given
-each-reason =
-    refl then refl then refl then refl then refl then refl then refl then refl then refl then refl then refl then refl then refl then refl
-    then refl then refl then refl then refl then refl
+-- the reasons, and that the last is accepted
+unfoldable pub reasons : List ℕ
+reasons = 2 ∷ 3 ∷ 4 ∷ 4 ∷ 5 ∷ 5 ∷ 6 ∷ 6 ∷ 7 ∷ 7 ∷ 8 ∷ 8 ∷ 8 ∷ 8 ∷ 9 ∷ 9 ∷ 10 ∷ 0 ∷ []

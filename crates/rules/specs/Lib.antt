@@ -2,10 +2,3 @@ pub mod State
 pub mod Rules
 pub mod Refusals
 pub mod Days
-pub mod Parts
-pub mod Tests
-pub mod Encoded
-pub mod Steps
-pub mod Ceiling
-pub mod Monotone
-pub mod Sizes

@@ -1,18 +1,16 @@
 -- The reasons to refuse, in checking order, and the step: what comes of any bytes on any state.
-use mathlib.Core.Bool.{Bool, true, false, _&&_, _||_, not}
+use mathlib.Core.Bool.{Bool, _&&_, _||_, not}
 use mathlib.Core.List.{List, [], _∷_, _++_}
-use Prim.Native.Nat.{ℕ, _+_, _*_}
+use Prim.Native.Nat.{ℕ}
 use lib.ListN.{getD, length}
 use lib.Dec.{eqb, ltb, leb}
 use Rattle.laws.specs.Fin.{allb, anyb}
 use Rattle.laws.specs.Upd.{ifb}
 use Rattle.seats.specs.Seats.{serves}
-use Rattle.records.specs.Layout.{checkOf, markOf, decodeReport, decodeProposal, encodeReport, encodeProposal, encodeNotice, encodeView}
+use Rattle.records.specs.Layout.{checkOf, markOf, decodeReport, decodeProposal, encodeProposal, encodeNotice, encodeView}
 use Rattle.records.specs.declared.Report.{Report}
 use Rattle.records.specs.declared.Proposal.{Proposal}
-use Rattle.rules.specs.declared.Slot.{Slot}
-use Rattle.rules.specs.declared.State.{State}
-use Rattle.rules.specs.State.{fast, slow, storedAt, acceptedAt, usedAt, usedFor}
+use Rattle.rules.specs.State.{Slot, State, fast, slow, storedAt, acceptedAt, usedAt, usedFor}
 use Rattle.rules.specs.Rules.{Written, notice, proposal, view, Outcome, fresh, reportRule, proposalRule}
 
 -- L: no number in a state or record passes it
@@ -53,10 +51,14 @@ pub record Made : Type 0 where
 unfoldable pub madeOf : ℕ → Made
 madeOf o = ifb (leb o 15) (record { refusal = 0; state = fresh o }) (record { refusal = 1; state = fresh 0 })
 
+-- the length of an output that every event has room in
+abbrev pub fullRoom : ℕ
+fullRoom = 182
+
 -- 2 to 5, before the record is read
 unfoldable pub unreadable : State → List ℕ → ℕ → ℕ
 unreadable s b room =
-    firstOf (record { number = 2; applies = not (wellFormed s) } ∷ record { number = 3; applies = ltb room 182 }
+    firstOf (record { number = 2; applies = not (wellFormed s) } ∷ record { number = 3; applies = ltb room fullRoom }
     ∷ record { number = checkOf b; applies = not (eqb (checkOf b) 0) } ∷ [])
 
 -- a record that was read
@@ -68,8 +70,8 @@ unfoldable pub eventOf : List ℕ → Event
 eventOf b = ifb (eqb (markOf b) 0x4e45) (aReport (decodeReport b)) (aProposal (decodeProposal b))
 
 -- 6 to 10 look at the proposal and the own office
-unfoldable pub wrongSender : State → Proposal → Bool
-wrongSender s p = ltb 15 (p .sender) || eqb (p .sender) (s .own)
+unfoldable pub wrongSender : ℕ → Proposal → Bool
+wrongSender own p = ltb 15 (p .sender) || eqb (p .sender) own
 
 unfoldable pub wrongKind : Proposal → Bool
 wrongKind p = not (eqb (p .kind) fast || eqb (p .kind) slow)
@@ -79,11 +81,17 @@ wrongNumber p =
     eqb (p .start) 0 || ltb limit (p .start) || eqb (p .number) 0 || ltb limit (p .number)
     || anyb 16 (λ o. ltb limit (usedFor p o))
 
-unfoldable pub withoutSeat : State → Proposal → Bool
-withoutSeat s p = not (serves (p .members .bits) (p .sender)) || not (serves (p .members .bits) (s .own))
+unfoldable pub withoutSeat : ℕ → Proposal → Bool
+withoutSeat own p = not (serves (p .members .bits) (p .sender)) || not (serves (p .members .bits) own)
 
 unfoldable pub strayUsed : Proposal → Bool
 strayUsed p = anyb 16 (λ o. not (serves (p .members .bits) o) && not (eqb (usedFor p o) 0))
+
+abbrev pub formChecks : ℕ → Proposal → List Check
+formChecks own p =
+    record { number = 6; applies = wrongSender own p } ∷ record { number = 7; applies = wrongKind p }
+    ∷ record { number = 8; applies = wrongNumber p } ∷ record { number = 9; applies = withoutSeat own p }
+    ∷ record { number = 10; applies = strayUsed p } ∷ []
 
 -- 11 and 12 look at what this office has accepted and proposed
 unfoldable pub notAbove : State → Proposal → Bool
@@ -94,10 +102,7 @@ usedAhead s p = ltb (s .number) (usedFor p (s .own))
 
 unfoldable pub proposalChecks : State → Proposal → List Check
 proposalChecks s p =
-    record { number = 6; applies = wrongSender s p } ∷ record { number = 7; applies = wrongKind p }
-    ∷ record { number = 8; applies = wrongNumber p } ∷ record { number = 9; applies = withoutSeat s p }
-    ∷ record { number = 10; applies = strayUsed p } ∷ record { number = 11; applies = notAbove s p }
-    ∷ record { number = 12; applies = usedAhead s p } ∷ []
+    formChecks (s .own) p ++ (record { number = 11; applies = notAbove s p } ∷ record { number = 12; applies = usedAhead s p } ∷ [])
 
 abbrev pub refusalOf : State → Event → ℕ
 refusalOf s (aReport r) = 0
@@ -137,3 +142,7 @@ bytesOf (view v) = encodeView v
 unfoldable pub allBytes : List Written → List ℕ
 allBytes [] = []
 allBytes (w ∷ ws) = bytesOf w ++ allBytes ws
+
+-- how many bytes that is
+abbrev pub size : List Written → ℕ
+size ws = length (allBytes ws)

@@ -1,9 +1,8 @@
 -- What an accepted event does: the rules of document 01, in its order and words.
 use mathlib.Core.Bool.{Bool, true, false, _&&_, _||_, not}
 use mathlib.Core.List.{List, [], _∷_, _++_}
-use Prim.Native.Nat.{ℕ, _+_, _*_, max}
-use lib.ListN.{getD}
-use lib.Dec.{eqb, ltb, leb}
+use Prim.Native.Nat.{ℕ, _+_, max}
+use lib.Dec.{eqb, ltb}
 use Rattle.laws.specs.Fin.{allb, anyb, largest}
 use Rattle.laws.specs.Tab.{tab}
 use Rattle.laws.specs.Upd.{ifb, upd}
@@ -12,11 +11,7 @@ use Rattle.records.specs.declared.Report.{Report}
 use Rattle.records.specs.declared.Proposal.{Proposal}
 use Rattle.records.specs.declared.Notice.{Notice}
 use Rattle.records.specs.declared.View.{View}
-use Rattle.rules.specs.declared.Mode.{Mode}
-use Rattle.rules.specs.declared.Mode.the-variants.{None, Fast, Slow}
-use Rattle.rules.specs.declared.Slot.{Slot}
-use Rattle.rules.specs.declared.State.{State}
-use Rattle.rules.specs.State.{fast, slow, kindOf, zeros, nothing, keeping, storedAt, acceptedAt, usedAt, usedFor, numberIn}
+use Rattle.rules.specs.State.{Mode, None, Fast, Slow, State, slow, kindOf, zeros, nothing, keeping, storedAt, acceptedAt, usedAt, usedFor, numberIn}
 
 -- a record written: to this office's seats, to the other offices, to this office's seats
 pub data Written : Type 0 where

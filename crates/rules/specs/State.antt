@@ -1,17 +1,35 @@
--- The state of one office: names for its parts.
-use mathlib.Core.Bool.{Bool, true, false, _&&_}
-use mathlib.Core.List.{List, [], _∷_}
-use Prim.Native.Nat.{ℕ, _+_, _*_}
+-- The state of one office in one room, and names for its parts.
+use mathlib.Core.Bool.{Bool, true, false}
+use mathlib.Core.List.{List}
+use Prim.Native.Nat.{ℕ}
 use lib.ListN.{getD}
-use lib.Dec.{eqb}
 use Rattle.laws.specs.Tab.{tab}
 use Rattle.laws.specs.Upd.{ifb}
 use Rattle.records.specs.declared.Proposal.{Proposal}
 use Rattle.records.specs.declared.View.{View}
-use Rattle.rules.specs.declared.Mode.{Mode}
-use Rattle.rules.specs.declared.Mode.the-variants.{None, Fast, Slow}
-use Rattle.rules.specs.declared.Slot.{Slot}
-use Rattle.rules.specs.declared.State.{State}
+use Rattle.seats.specs.declared.SeatSet.{SeatSet}
+
+-- no agreement is under way, or a fast or a slow one is
+pub data Mode : Type 0 where
+  None : Mode
+  Fast : Mode
+  Slow : Mode
+
+-- what is stored for an office: a proposal, or nothing
+pub record Slot : Type 0 where
+  pub present : Bool
+  pub proposal : Proposal
+
+pub record State : Type 0 where
+  pub own : ℕ
+  pub mode : Mode
+  pub net : SeatSet  -- the members that the reports so far make: Moshe's net view, NSView
+  pub stored : List Slot
+  pub accepted : List ℕ
+  pub view : View
+  pub start : ℕ
+  pub number : ℕ
+  pub used : List ℕ
 
 -- the two kinds of a proposal, as the raw byte
 abbrev pub fast : ℕ

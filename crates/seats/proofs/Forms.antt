@@ -9,9 +9,9 @@ use lib.Dec.{eqb, lit<}
 use lib.Bits.{bitOr, bitAnd, and-mask, and-le-l, and-zero-r}
 use lib.Pow.{pow-lt, shl-exact}
 use borrow.Author.Tests.{eq-eqb, ne-eqb, lt-ltb, le-ltb}
-use Rattle.laws.specs.Bit.{bit-shr}
+use Rattle.laws.proofs.Bit.{bit-shr}
 use Rattle.seats.specs.Seats.{has, containsOf, insertOf, removeOf, officeOf, seatsOf, serves}
-use Rattle.seats.specs.Laws.{has-and, has-empty, has-seats, seat-serves, serves-seat, serves-below, same-seats}
+use Rattle.seats.proofs.Laws.{has-and, has-empty, has-seats, seat-serves, serves-seat, serves-below, same-seats}
 
 shl-one : (s : ℕ) → s < 64 → 1 * 2 ^ s % 2 ^ 64 ≡ 2 ^ s
 shl-one s h = rw one-mul (mod-eq-of-lt (pow-lt h))

@@ -8,11 +8,13 @@ use native.Mathlib.Decide.{decLt}
 use lib.Dec.{eqb}
 use lib.Bits.{bitOr, bitAnd, mask-lt}
 use borrow.Author.Tests.{eqb-true, not-true}
-use Rattle.laws.specs.Bit.{bit, bit-shift}
-use Rattle.laws.specs.Fin.{allb, allb-out}
+use Rattle.laws.specs.Bit.{bit}
+use Rattle.laws.proofs.Bit.{bit-shift}
+use Rattle.laws.specs.Fin.{allb}
+use Rattle.laws.proofs.Fin.{allb-out}
 use Rattle.laws.specs.Upd.{ifb}
 use Rattle.seats.specs.Seats.{has, serves, officesOf, unionOf}
-use Rattle.seats.specs.Laws.{has-union, has-and, has-offices, offices-lt, same-seats, has-high}
+use Rattle.seats.proofs.Laws.{has-union, has-and, has-offices, offices-lt, same-seats, has-high}
 
 -- masks: one, two, four, eight places of each block of four times as many
 abbrev ones : ℕ

@@ -1,1 +1,1 @@
-// The settling rule over sixteen offices and their links: statement and proof stand in specs/. No code.
+// The settling rule over the world of crate runs: statement in specs/, proof in proofs/. No code.

@@ -1,3 +1,1 @@
-pub mod Search
-pub mod Appended
-pub mod Stepped
+pub mod Step

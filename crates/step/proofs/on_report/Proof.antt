@@ -1,13 +1,28 @@
-use mathlib.Core.Path.{refl, sym, _∙_}
+use mathlib.Core.Path.{_≡_, refl, sym, ap, _∙_}
+use mathlib.Core.Bool.{true, false}
 use native.Mathlib.Omega.{arith}
+use borrow.Author.Tests.{not-true, not-false}
 use lib.ListN.{length}
-use Rattle.rules.specs.Refusals.{aReport}
-use Rattle.rules.specs.Ceiling.{ceiling}
-use Rattle.rules.specs.Sizes.{event-size}
-use Rattle.step.specs.Stepped.{refuse-meets, report-check, report-event, step-unread, step-reported}
+use Rattle.records.specs.Layout.{checkOf}
+use Rattle.rules.specs.Refusals.{aReport, eventOf}
+use Rattle.row.proofs.Low.{sound-well, sound-row}
+use Rattle.step.proofs.Exits.{report-check, report-event, refuse-meets, exit-unread, exit-13, accept-meets}
 use borrow.Author.Needs.{needs}
 use Rattle.step.proofs.on_report.Statement.{statement}
 use Rattle.step.proofs.on_report.Tie as tie
+
+-- a report that was read
+checked : (c : tie.Else1) → checkOf (c .before .before .before .before .before .before .args .«record» .now) ≡ 0
+checked c =
+    let s = c .before .before .before .before .before .before in
+    let r = c .before .before .read-report in
+    sym (report-check (s .args .«record» .now) (s .pre .1) (r .result) (r .ensures)) ∙ c .if1 .left
+
+event : (c : tie.Else1) → eventOf (c .before .before .before .before .before .before .args .«record» .now) ≡ aReport (c .before .before .read-report .result .report)
+event c =
+    let s = c .before .before .before .before .before .before in
+    let r = c .before .before .read-report in
+    report-event (s .args .«record» .now) (s .pre .1) (r .result) (r .ensures) (c .if1 .left)
 
 read-report-requires : tie.Need-read-report-requires
 read-report-requires c κs = search needs
@@ -17,22 +32,19 @@ refuse-requires c κs = search needs
 
 returns : tie.Need-returns
 returns c =
-    let s = c .before .before .before .before .before .before in
+    let s = c .before .before .before .before .before .before .before in
     let a = s .args in
     let r = c .before .before .before .read-report in
-    refuse-meets _ (r .result .refusal) (a .state) (c .refuse .result) (a .out .now)
-    (step-unread (a .state) (a .«record» .now) (length (a .out .now)) (s .pre .0) (s .pre .1) (r .result .refusal)
-    (report-check (a .«record» .now) (s .pre .2) (r .result) (r .ensures)) (c .before .if1 .taken))
+    refuse-meets _ (r .result .refusal) (a .state .now) (a .out .now) (c .refuse .result)
+    (exit-unread (a .state .now) (a .«record» .now) (length (a .out .now)) (s .pre .0 .sound) (s .pre .0 .fits) (r .result .refusal)
+    (report-check (a .«record» .now) (s .pre .1) (r .result) (r .ensures)) (c .before .if1 .taken))
     (c .refuse .ensures)
 
-report-rule-requires : tie.Need-report-rule-requires
-report-rule-requires c κs = search needs
+report-within-requires : tie.Need-report-within-requires
+report-within-requires c κs = search needs
 
-accept-requires : tie.Need-accept-requires
-accept-requires c κs =
-    let s = c .before .before .before .before .before .before .before .before in
-    let z = event-size (s .args .state) (aReport (c .before .before .before .before .before .read-report .result .report)) in
-    rw (c .before .report-rule .ensures) (omega (arith, s .pre .1), ceiling (s .args .state) (aReport _) (s .pre .0) refl)
+refuse-requires-2 : tie.Need-refuse-requires-2
+refuse-requires-2 c κs = search needs
 
 same-length : tie.Need-same-length
 same-length c = search needs
@@ -41,15 +53,36 @@ returns-2 : tie.Need-returns-2
 returns-2 c =
     let s = c .before .before .before .before .before .before .before .before .before .before .before in
     let a = s .args in
-    let r = c .before .before .before .before .before .before .before .before .read-report in
-    let z = c .before .before .before .before .before .before .if1 .left in
-    let checked = sym (report-check (a .«record» .now) (s .pre .2) (r .result) (r .ensures)) ∙ z in
-    let event = report-event (a .«record» .now) (s .pre .2) (r .result) (r .ensures) z in
-    rw (
-      step-reported (a .state) (a .«record» .now) (length (a .out .now)) (s .pre .0) (s .pre .1) checked (r .result .report) event,
-      ← c .before .before .before .before .report-rule .ensures,
-    )
-    (c .before .before .accept .ensures)
+    let e = c .before .before .before .before .before in
+    refuse-meets _ 13 (a .state .now) (a .out .now) (c .refuse2 .result)
+    (exit-13 (a .state .now) (a .«record» .now) (length (a .out .now)) (s .pre .0 .sound) (s .pre .0 .fits) (checked e) (aReport _) (event e) refl
+    (sym (c .before .before .report-within .ensures) ∙ not-true _ (c .before .if2 .taken)))
+    (c .refuse2 .ensures)
+
+act-on-report-requires : tie.Need-act-on-report-requires
+act-on-report-requires c κs =
+    let s = c .before .before .before .before .before .before .before .before .before .before .before .before in
+    let ws = s .args .state .now in
+    (sound-row ws (s .pre .0 .sound), sound-well ws (s .pre .0 .sound), s .pre .0 .fits)
+
+accept-requires : tie.Need-accept-requires
+accept-requires c κs = search needs
+
+same-length-2 : tie.Need-same-length-2
+same-length-2 c = search needs
+
+same-length-3 : tie.Need-same-length-3
+same-length-3 c = search needs
+
+returns-3 : tie.Need-returns-3
+returns-3 c =
+    let s = c .before .before .before .before .before .before .before .before .before .before .before .before .before .before .before .before .before .before in
+    let a = s .args in
+    let e = c .before .before .before .before .before .before .before .before .before .before .before .before in
+    let d = c .before .before .before .before .before .act-on-report in
+    accept-meets (a .state .now) (a .«record» .now) (length (a .out .now)) (s .pre .0 .sound) (s .pre .0 .fits) (checked e) (aReport _) (event e) refl
+    (c .accept .result) (d .result) (a .out .now) _ _
+    (sym (c .before .before .before .before .before .before .before .before .before .report-within .ensures) ∙ not-false _ (c .before .before .before .before .before .before .before .before .if2 .left)) (d .ensures) (λ k. omega (arith, c .before .before .before .slice-known3 .given k)) (c .accept .ensures)
 
 pub on-report-spec : {M : Type 1} → statement M
 on-report-spec =
@@ -58,7 +91,12 @@ on-report-spec =
     read-report-requires
     refuse-requires
     returns
-    report-rule-requires
-    accept-requires
+    report-within-requires
+    refuse-requires-2
     same-length
-    returns-2)
+    returns-2
+    act-on-report-requires
+    accept-requires
+    same-length-2
+    same-length-3
+    returns-3)

@@ -3,8 +3,8 @@ use borrow.Author.Needs.{needs}
 use Rattle.records.proofs.checks.form_of.Statement.{statement}
 use Rattle.records.proofs.checks.form_of.Tie as tie
 
-mark-value-requires : tie.Need-mark-value-requires
-mark-value-requires c κs = search needs
+mark-of-requires : tie.Need-mark-of-requires
+mark-of-requires c κs = search needs
 
 form-for-requires : tie.Need-form-for-requires
 form-for-requires c κs = search needs
@@ -14,4 +14,4 @@ unfolding formOf
 returns c = cc
 
 pub form-of-spec : {M : Type 1} → statement M
-form-of-spec = tie.close (tie.spec mark-value-requires form-for-requires returns)
+form-of-spec = tie.close (tie.spec mark-of-requires form-for-requires returns)

@@ -1,6 +1,6 @@
 use borrow.Author.Needs.{needs}
 use mathlib.Core.Path.{sym}
-use Rattle.seats.specs.Laws.{insert-above}
+use Rattle.seats.proofs.Laws.{insert-above}
 use Rattle.seats.proofs.Forms.{inserted}
 use Rattle.seats.proofs.SeatSet.insert.Statement.{statement}
 use Rattle.seats.proofs.SeatSet.insert.Tie as tie

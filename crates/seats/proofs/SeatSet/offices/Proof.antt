@@ -1,6 +1,6 @@
 use borrow.Author.Needs.{needs}
 use native.Mathlib.Omega.{arith}
-use Rattle.seats.specs.Laws.{offices-lt}
+use Rattle.seats.proofs.Laws.{offices-lt}
 use Rattle.seats.proofs.SeatSet.offices.Statement.{statement}
 use Rattle.seats.proofs.SeatSet.offices.Tie as tie
 

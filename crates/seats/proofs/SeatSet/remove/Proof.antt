@@ -1,6 +1,6 @@
 use borrow.Author.Needs.{needs}
 use mathlib.Core.Path.{sym}
-use Rattle.seats.specs.Laws.{remove-above}
+use Rattle.seats.proofs.Laws.{remove-above}
 use Rattle.seats.proofs.Forms.{removed}
 use Rattle.seats.proofs.SeatSet.remove.Statement.{statement}
 use Rattle.seats.proofs.SeatSet.remove.Tie as tie

@@ -1,0 +1,65 @@
+use borrow.Author.Needs.{needs}
+use mathlib.Core.Path.{_≡_, refl, _∙_}
+use native.Mathlib.Omega.{arith}
+use lib.ListN.{length}
+use Rattle.feed.specs.Whole.{Ran}
+use Rattle.feed.proofs.Whole.{ran-begun, ran-turned, left-less}
+use Rattle.feed.proofs.turns.Statement.{statement}
+use Rattle.feed.proofs.turns.Tie as tie
+
+abbrev Inv-loop : tie.InvT-loop
+Inv-loop state₀ input₀ output₀ traced place₀ more₀ failed₀ left₀ state input output place more failed left =
+    Ran traced state₀ state place input output more failed left
+    × (length state ≡ length state₀) × (length input ≡ length input₀) × (length output ≡ length output₀)
+
+abbrev μ-loop : tie.MeasureT-loop
+μ-loop state₀ input₀ output₀ traced place₀ more₀ failed₀ left₀ state input output place more failed left = left
+
+loop-holds : tie.Need-loop-holds Inv-loop μ-loop
+loop-holds c = (ran-begun _ _ _ (c .before .before .before .pre .0), refl, refl, refl)
+
+turn-requires : tie.Need-turn-requires Inv-loop μ-loop
+turn-requires c κs =
+    let l = c .before .before .before .before .loop .inv in
+    let s = c .before .before .before .before .before .before .before .before .pre in
+    (l .0 .sound, l .0 .within, l .2 ∙ s .1, l .3 ∙ s .2, omega (arith, l .0 .number))
+
+turns-left-requires : tie.Need-turns-left-requires Inv-loop μ-loop
+turns-left-requires c κs = omega arith
+
+loop-less : tie.Need-loop-less Inv-loop μ-loop
+loop-less c = left-less (c .before .before .before .before .before .before .before .before .turn .result .more) (c .before .before .before .before .before .before .before .before .turn .result .failed) _ _ (omega arith) (c .turns-left .ensures)
+
+loop-again : tie.Need-loop-again Inv-loop μ-loop
+loop-again c =
+    let l = c .before .before .before .before .before .before .before .before .before .before .before .before .before .loop .inv in
+    let t = c .before .before .before .before .before .before .before .before .turn in
+    (ran-turned (l .0) (omega arith) (t .ensures) (c .turns-left .ensures), t .kept .0 ∙ l .1, t .kept .1 .1 .0 ∙ l .2, t .kept .1 .1 .1 .0 ∙ l .3)
+
+same-length : tie.Need-same-length Inv-loop μ-loop
+same-length c = c .before .loop .inv .1
+
+same-length-2 : tie.Need-same-length-2 Inv-loop μ-loop
+same-length-2 c = c .before .loop .inv .2
+
+same-length-3 : tie.Need-same-length-3 Inv-loop μ-loop
+same-length-3 c = c .before .loop .inv .3
+
+returns : tie.Need-returns Inv-loop μ-loop
+returns c = let e : c .before .loop .left ≡ 0 = omega arith in rw e at (c .before .loop .inv .0)
+
+pub turns-spec : {M : Type 1} → statement M
+turns-spec =
+    tie.close
+    (tie.spec
+    Inv-loop
+    μ-loop
+    loop-holds
+    turn-requires
+    turns-left-requires
+    loop-less
+    loop-again
+    same-length
+    same-length-2
+    same-length-3
+    returns)

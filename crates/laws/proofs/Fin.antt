@@ -1,0 +1,237 @@
+-- Below n: all, some, the largest, sums; a test by cases.
+use mathlib.Core.Path.{_≡_, refl, sym, ap}
+use mathlib.Core.Bool.{Bool, true, false, _&&_, _||_, not}
+use mathlib.Core.Logic.{_⊎_, inl, inr, _↔_}
+use Prim.Native.Nat.{ℕ, zero, suc, _+_, _*_, _≤_, _<_, max}
+use native.Mathlib.Omega.{arith}
+use native.Mathlib.Decide.{ℕ-discrete, decLt}
+use lib.Dec.{ltb, leb, eqb}
+use borrow.Author.Tests.{ltb-true, ltb-false, leb-true, leb-false, eqb-true, eqb-false, not-true, not-false, lt-ltb, le-ltb, le-leb, lt-leb, eq-eqb, ne-eqb}
+use Rattle.laws.specs.Upd.{upd, ifb}
+use Rattle.laws.proofs.Upd.{upd-same, upd-other, upd-cases}
+use Rattle.laws.specs.Fin.{allb, anyb, largest, sum}
+
+-- P holds of a choice if it does on both sides
+pub if-cases {ℓ} : {A : Type 0} (P : A → Type ℓ) (t : Bool) (a b : A) → (t ≡ true → P a) → (t ≡ false → P b) → P (ifb t a b)
+if-cases P true a b f g = f refl
+if-cases P false a b f g = g refl
+
+pub if-le : (t : Bool) (a b c : ℕ) → a ≤ c → b ≤ c → ifb t a b ≤ c
+if-le t a b c x y = if-cases (λ (v : ℕ). v ≤ c) t a b (λ _. x) (λ _. y)
+
+-- what both and neither say of the parts
+pub and-l : (a b : Bool) → a && b ≡ true → a ≡ true
+and-l true b e = refl
+and-l false b e = e
+
+pub and-r : (a b : Bool) → a && b ≡ true → b ≡ true
+and-r true b e = e
+and-r false b e = let z : false ≡ true = e in cc
+
+pub and-in : (a b : Bool) → a ≡ true → b ≡ true → a && b ≡ true
+and-in true b e f = f
+and-in false b e f = e
+
+pub or-l : (a b : Bool) → a || b ≡ false → a ≡ false
+or-l true b e = e
+or-l false b e = refl
+
+pub or-r : (a b : Bool) → a || b ≡ false → b ≡ false
+or-r true b e = let z : true ≡ false = e in cc
+or-r false b e = e
+
+pub or-out : (a b : Bool) → a ≡ false → b ≡ false → a || b ≡ false
+or-out true b e f = e
+or-out false b e f = f
+
+pub or-cases : (a b : Bool) → a || b ≡ true → (a ≡ true) ⊎ (b ≡ true)
+or-cases true b e = inl refl
+or-cases false b e = inr e
+
+pub true-false : (t : Bool) → t ≡ true → t ≡ false → ⊥
+true-false t e f = let z : _≡_ {A = ℕ} 0 1 = cc in omega arith
+
+pub allb-out : (n : ℕ) (p : ℕ → Bool) → allb n p ≡ true → (k : ℕ) → k < n → p k ≡ true
+unfolding allb
+allb-out zero p e k h = absurd (omega arith)
+allb-out (suc n) p e k h = go (ℕ-discrete k n) (allb-out n p (and-r (p n) (allb n p) e) k)
+  where
+    go : Dec (k ≡ n) → (k < n → p k ≡ true) → p k ≡ true
+    go (yes q) ih = rw q (and-l (p n) (allb n p) e)
+    go (no q) ih = ih (omega arith)
+
+pub allb-in : (n : ℕ) (p : ℕ → Bool) → ((k : ℕ) → k < n → p k ≡ true) → allb n p ≡ true
+unfolding allb
+allb-in zero p h = refl
+allb-in (suc n) p h = and-in (p n) (allb n p) (h n (omega arith)) (allb-in n p (λ k l. h k (omega arith)))
+
+-- all or a counterexample
+pub all-or : (n : ℕ) (p : ℕ → Bool) → ((k : ℕ) → k < n → p k ≡ true) ⊎ ((k : ℕ) × (k < n) × (p k ≡ false))
+all-or zero p = inl (λ k h. absurd (omega arith))
+all-or (suc n) p = go (p n) refl (all-or n p)
+  where
+    Goal : Type 0
+    Goal = ((k : ℕ) → k < suc n → p k ≡ true) ⊎ ((k : ℕ) × (k < suc n) × (p k ≡ false))
+
+    last : p n ≡ true → ((k : ℕ) → k < n → p k ≡ true) → (k : ℕ) → k < suc n → Dec (k ≡ n) → p k ≡ true
+    last e f k h (yes q) = rw q e
+    last e f k h (no q) = f k (omega arith)
+
+    go : (t : Bool) → p n ≡ t → ((k : ℕ) → k < n → p k ≡ true) ⊎ ((k : ℕ) × (k < n) × (p k ≡ false)) → Goal
+    go false e r = inr (n, omega arith, e)
+    go true e (inl f) = inl (λ k h. last e f k h (ℕ-discrete k n))
+    go true e (inr c) = inr (c .0, omega arith, c .2)
+
+pub anyb-in : (n : ℕ) (p : ℕ → Bool) (k : ℕ) → k < n → p k ≡ true → anyb n p ≡ true
+unfolding anyb
+anyb-in zero p k h e = absurd (omega arith)
+anyb-in (suc n) p k h e = go (p n) refl (ℕ-discrete k n) (anyb-in n p k)
+  where
+    go : (t : Bool) → p n ≡ t → Dec (k ≡ n) → (k < n → p k ≡ true → anyb n p ≡ true) → t || anyb n p ≡ true
+    go true q d ih = refl
+    go false q (yes z) ih = let w = ap p z in cc
+    go false q (no z) ih = ih (omega arith) e
+
+-- a witness
+pub anyb-out : (n : ℕ) (p : ℕ → Bool) → anyb n p ≡ true → (k : ℕ) × (k < n) × (p k ≡ true)
+unfolding anyb
+anyb-out zero p e = absurd (true-false false e refl)
+anyb-out (suc n) p e = go (p n) refl e (anyb-out n p)
+  where
+    go : (t : Bool) → p n ≡ t → t || anyb n p ≡ true → (anyb n p ≡ true → (k : ℕ) × (k < n) × (p k ≡ true))
+        → (k : ℕ) × (k < suc n) × (p k ≡ true)
+    go true q e ih = (n, omega arith, q)
+    go false q e ih = let w = ih e in (w .0, omega arith, w .2)
+
+pub anyb-none : (n : ℕ) (p : ℕ → Bool) → anyb n p ≡ false → (k : ℕ) → k < n → p k ≡ false
+anyb-none n p e k h = go (p k) refl
+  where
+    go : (t : Bool) → p k ≡ t → p k ≡ false
+    go false q = q
+    go true q = absurd (true-false (anyb n p) (anyb-in n p k h q) e)
+
+pub none-anyb : (n : ℕ) (p : ℕ → Bool) → ((k : ℕ) → k < n → p k ≡ false) → anyb n p ≡ false
+unfolding anyb
+none-anyb zero p h = refl
+none-anyb (suc n) p h = or-out (p n) (anyb n p) (h n (omega arith)) (none-anyb n p (λ k l. h k (omega arith)))
+
+-- tests as facts, for `simp`: a test that holds, and one that does not
+pub and-iff : (a b : Bool) → (a && b ≡ true) ↔ ((a ≡ true) × (b ≡ true))
+and-iff a b = (λ e. (and-l a b e, and-r a b e), λ h. and-in a b (h .0) (h .1))
+
+pub or-iff : (a b : Bool) → (a || b ≡ false) ↔ ((a ≡ false) × (b ≡ false))
+or-iff a b = (λ e. (or-l a b e, or-r a b e), λ h. or-out a b (h .0) (h .1))
+
+pub not-true-iff : (a : Bool) → (not a ≡ true) ↔ (a ≡ false)
+not-true-iff a = (not-true a, λ e. rw e)
+
+pub not-false-iff : (a : Bool) → (not a ≡ false) ↔ (a ≡ true)
+not-false-iff a = (not-false a, λ e. rw e)
+
+pub leb-iff : (a b : ℕ) → (leb a b ≡ true) ↔ (a ≤ b)
+leb-iff a b = (leb-true a b, le-leb a b)
+
+pub leb-not-iff : (a b : ℕ) → (leb a b ≡ false) ↔ (b < a)
+leb-not-iff a b = (leb-false a b, lt-leb a b)
+
+pub ltb-iff : (a b : ℕ) → (ltb a b ≡ true) ↔ (a < b)
+ltb-iff a b = (ltb-true a b, lt-ltb a b)
+
+pub ltb-not-iff : (a b : ℕ) → (ltb a b ≡ false) ↔ (b ≤ a)
+ltb-not-iff a b = (ltb-false a b, le-ltb a b)
+
+pub eqb-iff : (a b : ℕ) → (eqb a b ≡ true) ↔ (a ≡ b)
+eqb-iff a b = (eqb-true a b, eq-eqb a b)
+
+pub eqb-not-iff : (a b : ℕ) → (eqb a b ≡ false) ↔ (a ≡ b → ⊥)
+eqb-not-iff a b = (eqb-false a b, ne-eqb a b)
+
+pub allb-iff : (n : ℕ) (p : ℕ → Bool) → (allb n p ≡ true) ↔ ((k : ℕ) → k < n → p k ≡ true)
+allb-iff n p = (allb-out n p, allb-in n p)
+
+pub anyb-iff : (n : ℕ) (p : ℕ → Bool) → (anyb n p ≡ false) ↔ ((k : ℕ) → k < n → p k ≡ false)
+anyb-iff n p = (anyb-none n p, none-anyb n p)
+
+pub ruleset as-facts =
+    (and-iff, or-iff, not-true-iff, not-false-iff, leb-iff, leb-not-iff, ltb-iff, ltb-not-iff, eqb-iff, eqb-not-iff, allb-iff, anyb-iff)
+
+-- it is one of them
+pub largest-max : (n : ℕ) (f : ℕ → ℕ) → 0 < n → (k : ℕ) × (k < n) × (largest n f ≡ f k)
+unfolding largest
+largest-max zero f h = absurd (omega arith)
+largest-max (suc zero) f h = (0, omega arith, omega arith)
+largest-max (suc (suc n)) f h = go (largest-max (suc n) f (omega arith)) (decLt (largest (suc n) f) (f (suc n)))
+  where
+    go : ((k : ℕ) × (k < suc n) × (largest (suc n) f ≡ f k)) → Dec (largest (suc n) f < f (suc n))
+        → (k : ℕ) × (k < suc (suc n)) × (max (f (suc n)) (largest (suc n) f) ≡ f k)
+    go w (yes l) = (suc n, omega arith, omega arith)
+    go w (no l) = let e = w .2 in (w .0, omega arith, omega arith)
+
+-- each of them is at most the largest, and what each is at most, so is the largest
+pub largest-le : (n : ℕ) (f : ℕ → ℕ) (k : ℕ) → k < n → f k ≤ largest n f
+unfolding largest
+largest-le zero f k h = absurd (omega arith)
+largest-le (suc n) f k h = go (ℕ-discrete k n) (largest-le n f k)
+  where
+    go : Dec (k ≡ n) → (k < n → f k ≤ largest n f) → f k ≤ max (f n) (largest n f)
+    go (yes e) ih = let w = ap f e in omega arith
+    go (no e) ih = let w = ih (omega arith) in omega arith
+
+pub largest-below : (n : ℕ) (f : ℕ → ℕ) (b : ℕ) → ((k : ℕ) → k < n → f k ≤ b) → largest n f ≤ b
+unfolding largest
+largest-below zero f b h = omega arith
+largest-below (suc n) f b h = let a = h n (omega arith) in let c = largest-below n f b (λ k l. h k (omega arith)) in omega arith
+
+pub largest-ext : (n : ℕ) (f g : ℕ → ℕ) → ((k : ℕ) → k < n → f k ≡ g k) → largest n f ≡ largest n g
+unfolding largest
+largest-ext zero f g h = refl
+largest-ext (suc n) f g h = let a = h n (omega arith) in let b = largest-ext n f g (λ k l. h k (omega arith)) in cc
+
+pub sum-ext : (n : ℕ) (f g : ℕ → ℕ) → ((k : ℕ) → k < n → f k ≡ g k) → sum n f ≡ sum n g
+unfolding sum
+sum-ext zero f g h = refl
+sum-ext (suc n) f g h = let a = h n (omega arith) in let b = sum-ext n f g (λ k lt. h k (omega arith)) in omega arith
+
+pub sum-upd : (n : ℕ) (f : ℕ → ℕ) (i v : ℕ) → i < n → sum n (upd f i v) + f i ≡ sum n f + v
+unfolding sum
+sum-upd zero f i v h = absurd (omega arith)
+sum-upd (suc n) f i v h = go (ℕ-discrete i n) (sum-upd n f i v)
+  where
+    go : Dec (i ≡ n) → (i < n → sum n (upd f i v) + f i ≡ sum n f + v) → upd f i v n + sum n (upd f i v) + f i ≡ f n + sum n f + v
+    go (yes q) ih =
+        let a : upd f i v n ≡ v = rw q (upd-same f n v) in
+        let b : sum n (upd f i v) ≡ sum n f = sum-ext n (upd f i v) f (λ k lt. upd-other f i v k (λ e. omega arith)) in
+        let c : f i ≡ f n = ap f q in
+        omega arith
+    go (no q) ih =
+        let a = upd-other f i v n (λ e. q (sym e)) in
+        let b = ih (omega arith) in
+        omega arith
+
+-- two sums that differ in one term
+pub sum-one : (n : ℕ) (f g : ℕ → ℕ) (i : ℕ) → i < n → ((k : ℕ) → (k ≡ i → ⊥) → f k ≡ g k) → sum n f + g i ≡ sum n g + f i
+sum-one n f g i h e =
+    let a : sum n f ≡ sum n (upd g i (f i)) = sum-ext n f (upd g i (f i)) (λ k lt. upd-cases (λ (m v : ℕ). f m ≡ v) g i (f i) k refl (e k)) in
+    let b = sum-upd n g i (f i) h in
+    omega arith
+
+pub sum-add : (n : ℕ) (f g : ℕ → ℕ) → sum n (λ k. f k + g k) ≡ sum n f + sum n g
+unfolding sum
+sum-add zero f g = refl
+sum-add (suc n) f g = let a = sum-add n f g in omega arith
+
+-- c for each that passes the test
+pub sum-times : (n : ℕ) (t : ℕ → Bool) (c : ℕ) → sum n (λ k. ifb (t k) c 0) ≡ sum n (λ k. ifb (t k) 1 0) * c
+unfolding sum
+sum-times zero t c = omega arith
+sum-times (suc n) t c = go (t n) (sum-times n t c)
+  where
+    go : (b : Bool) → sum n (λ k. ifb (t k) c 0) ≡ sum n (λ k. ifb (t k) 1 0) * c
+        → ifb b c 0 + sum n (λ k. ifb (t k) c 0) ≡ (ifb b 1 0 + sum n (λ k. ifb (t k) 1 0)) * c
+    go true e = omega arith
+    go false e = omega arith
+
+pub sum-mono : (n : ℕ) (f g : ℕ → ℕ) → ((k : ℕ) → k < n → f k ≤ g k) → sum n f ≤ sum n g
+unfolding sum
+sum-mono zero f g h = omega arith
+sum-mono (suc n) f g h = let a = h n (omega arith) in let b = sum-mono n f g (λ k lt. h k (omega arith)) in omega arith

@@ -1,0 +1,9 @@
+-- The laws of the definitions in specs/.
+pub mod Big
+pub mod Bit
+pub mod Fin
+pub mod Loops
+pub mod Seqs
+pub mod Tab
+pub mod Upd
+pub mod Lists

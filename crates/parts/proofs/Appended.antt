@@ -1,0 +1,51 @@
+-- Records written one after another.
+use mathlib.Core.Path.{_≡_, refl, sym, ap, _∙_}
+use mathlib.Core.List.{List, [], _∷_, _++_, append-assoc, append-nil}
+use Prim.Native.Nat.{ℕ, _+_, _≤_}
+use native.Mathlib.Omega.{arith}
+use lib.ListN.{length, length-append}
+use lib.Seq.{sets}
+use borrow.Author.Tests.{le-leb}
+use Rattle.laws.proofs.Big.{sets-append}
+use Rattle.records.specs.Write.{Placed, placed, placedCount}
+use Rattle.rules.specs.Rules.{Written}
+use Rattle.rules.specs.Refusals.{bytesOf, allBytes, size}
+use Rattle.parts.specs.Did.{Appended}
+
+pub bytes-append : (a b : List Written) → allBytes (a ++ b) ≡ allBytes a ++ allBytes b
+unfolding allBytes
+bytes-append [] b = refl
+bytes-append (w ∷ a) b = ap (λ (l : List ℕ). bytesOf w ++ l) (bytes-append a b) ∙ sym (append-assoc (bytesOf w) (allBytes a) (allBytes b))
+
+pub size-append : (a b : List Written) → size (a ++ b) ≡ size a + size b
+size-append a b = ap length (bytes-append a b) ∙ length-append (allBytes a) (allBytes b)
+
+bytes-one : (w : Written) → allBytes (w ∷ []) ≡ bytesOf w
+unfolding allBytes
+bytes-one w = append-nil (bytesOf w)
+
+-- no record
+pub appended-none : (o : List ℕ) (at : ℕ) → Appended o at [] at o
+unfolding allBytes
+appended-none o at = record { place = omega arith; output = refl }
+
+-- one record that has room
+pub appended-one : (o : List ℕ) (at : ℕ) (w : Written) (n : ℕ) (o′ : List ℕ) → at + size (w ∷ []) ≤ length o → Placed o at (bytesOf w) n o′
+    → Appended o at (w ∷ []) (at + n) o′
+unfolding placed placedCount
+appended-one o at w n o′ room h =
+    let e = bytes-one w in
+    let fits = le-leb (at + length (bytesOf w)) (length o) (rw e at room) in
+    record {
+      place = ap (λ (k : ℕ). at + k) (rw fits at (h .count) ∙ sym (ap length e));
+      output = rw fits at (h .output) ∙ sym (ap (sets o at) e);
+    }
+
+-- more records after some
+pub appended-then : {o p q : List ℕ} {at m n : ℕ} {a b : List Written} → Appended o at a m p → Appended p m b n q
+    → Appended o at (a ++ b) n q
+appended-then {o} {p} {q} {at} {m} {n} {a} {b} f g = record {
+  place = let e = size-append a b in omega (arith, f .place, g .place);
+  output = g .output
+      ∙ rw (f .output, f .place) (sym (sets-append o at (allBytes a) (allBytes b)) ∙ sym (ap (sets o at) (bytes-append a b)));
+}

@@ -1,0 +1,5 @@
+pub mod Appended
+pub mod Dids
+pub mod Made
+pub mod Bounding
+pub mod Loops

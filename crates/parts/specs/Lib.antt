@@ -1,0 +1,3 @@
+pub mod Did
+pub mod Bounds
+pub mod Parts

@@ -1,0 +1,114 @@
+// An office makes its own proposal and stores it; inner to the layer of the step.
+use parts::counted;
+use parts::larger;
+use proposal_writer::write_proposal;
+use records::FAST;
+use records::Proposal;
+use seats::SeatSet;
+use seats::seats_of;
+ghost use mathlib.Core.Path.{_≡_};
+ghost use Prim.Native.Nat.{_≤_, _<_};
+ghost use Rattle.laws.specs.Fin.{largest};
+ghost use Rattle.laws.specs.Tab.{tab};
+ghost use Rattle.laws.specs.Upd.{ifb};
+ghost use Rattle.seats.specs.Seats.{serves};
+ghost use Rattle.rules.specs.State.{usedAt};
+ghost use Rattle.rules.specs.Rules.{nextNumber, ownProposal, proposed, hasRecipient, proposesFast};
+ghost use Rattle.row.specs.Row.{Row, Changed, stateOf, modeOf};
+ghost use Rattle.parts.specs.Did.{Did, Fits};
+ghost use Rattle.parts.specs.Bounds.{reach, Bounded};
+ghost use Rattle.parts.specs.Parts.{countedAt};
+
+// The number of what is stored for office o of a set; nothing, and any other office, counts as 0.
+fn counted_at(s: &[u32], net: SeatSet, o: usize) -> u32
+    requires { ⌜ Row (now s) × (o < 16) ⌝ }
+    ensures { λ r. ⌜ r ≡ countedAt (net .bits) (stateOf (now (s .entry))) o ⌝ }
+{
+    if !row::stored_present(s, o) {
+        return 0;
+    }
+    counted(net.serves(o as u8), row::stored_number(s, o))
+}
+
+fn largest_stored(s: &[u32]) -> u32
+    requires { ⌜ Row (now s) ⌝ }
+    ensures { λ r. ⌜ r ≡ largest 16 (countedAt (stateOf (now (s .entry)) .net .bits) (stateOf (now (s .entry)))) ⌝ }
+{
+    let net = row::net(s);
+    let mut top: u32 = 0;
+    let mut o: usize = 0;
+    while o < 16 {
+        top = larger(counted_at(s, net, o), top);
+        o += 1;
+    }
+    top
+}
+
+fn next_number(s: &[u32]) -> u32
+    requires { ⌜ Row (now s) × Bounded reach (stateOf (now s)) ⌝ }
+    ensures { λ r. ⌜ r ≡ nextNumber (stateOf (now (s .entry))) ⌝ }
+{
+    1 + larger(row::number(s), largest_stored(s))
+}
+
+// The used numbers of the offices of a set, 0 for the others.
+fn used_within(s: &[u32], net: SeatSet) -> [u32; 16]
+    requires { ⌜ Row (now s) ⌝ }
+    ensures { λ r. ⌜ r ≡ tab 16 (λ o. ifb (serves (net .bits) o) (usedAt (stateOf (now (s .entry))) o) 0) ⌝ }
+{
+    let mut used = [0u32; 16];
+    let mut o: usize = 0;
+    while o < 16 {
+        used[o] = counted(net.serves(o as u8), row::used(s, o));
+        o += 1;
+    }
+    used
+}
+
+pub fn own_proposal(s: &[u32], kind: u8, n: u32) -> Proposal
+    requires { ⌜ Row (now s) × (stateOf (now s) .own < 16) × (kind ≤ 2) ⌝ }
+    ensures { λ r. ⌜ r ≡ ownProposal (modeOf kind) n (stateOf (now (s .entry))) ⌝ }
+{
+    let net = row::net(s);
+    Proposal {
+        sender: row::own(s),
+        kind: kind,
+        members: net,
+        start: row::start(s),
+        number: n,
+        used: used_within(s, net),
+    }
+}
+
+// The proposal made is stored as the own one.
+pub fn keep_own(s: &mut [u32], kind: u8, p: Proposal)
+    requires { ⌜ Row (now s) × (stateOf (now s) .own < 16) × (kind ≤ 2) ⌝ }
+    requires { ⌜ p ≡ ownProposal (modeOf kind) (p .number) (stateOf (now s)) ⌝ }
+    ensures { λ _. ⌜ Changed (proposed (modeOf kind) (p .number)) (now (s .entry)) (now (s .exit)) ⌝ }
+{
+    row_changes::put_stored(s, p.sender as usize, p);
+    row_changes::set_number(s, p.number);
+    row_changes::set_mode(s, kind);
+}
+
+// Some office other than the sender has a seat among the members.
+fn has_recipient(p: Proposal) -> bool
+    requires { ⌜ p .sender < 16 ⌝ }
+    ensures { λ r. ⌜ r ≡ hasRecipient p ⌝ }
+{
+    let members = p.members;
+    let others = members.without(seats_of(p.sender));
+    !others.is_empty()
+}
+
+pub fn proposes_fast(s: &mut [u32], out: &mut [u8], at: usize) -> usize
+    requires { ⌜ Row (now s) × Bounded reach (stateOf (now s)) × Fits proposesFast (now s) (now out) at ⌝ }
+    ensures { λ n. ⌜ Did proposesFast (now (s .entry)) (now (out .entry)) at (now (s .exit)) (now (out .exit)) n ⌝ }
+{
+    let p = own_proposal(s, FAST, next_number(s));
+    keep_own(s, FAST, p);
+    if !has_recipient(p) {
+        return at;
+    }
+    at + write_proposal(out, at, p)
+}

@@ -1,0 +1,27 @@
+-- The lengths of the four records.
+use mathlib.Core.Path.{_≡_, refl}
+use native.Mathlib.Omega.{arith}
+use lib.ListN.{length}
+use Rattle.laws.proofs.Big.{length-all}
+use Rattle.records.specs.declared.Report.{Report}
+use Rattle.records.specs.declared.Proposal.{Proposal}
+use Rattle.records.specs.declared.Notice.{Notice}
+use Rattle.records.specs.declared.View.{View}
+use Rattle.records.specs.Layout.{encodeReport, encodeProposal, encodeNotice, encodeView}
+use Rattle.records.specs.Layout.{reportLength, proposalLength, noticeLength, viewLength}
+
+pub report-length : (r : Report) → length (encodeReport r) ≡ reportLength
+unfolding encodeReport
+report-length r = refl
+
+pub proposal-length : (p : Proposal) → length (p .used) ≡ 16 → length (encodeProposal p) ≡ proposalLength
+unfolding encodeProposal
+proposal-length p h = let e = length-all (p .used) in omega arith
+
+pub notice-length : (n : Notice) → length (encodeNotice n) ≡ noticeLength
+unfolding encodeNotice
+notice-length n = refl
+
+pub view-length : (v : View) → length (v .starts) ≡ 16 → length (encodeView v) ≡ viewLength
+unfolding encodeView
+view-length v h = let e = length-all (v .starts) in omega arith

@@ -1,0 +1,138 @@
+-- Each record comes back the same both ways: a value that fits its fields by its bytes, bytes of the right mark and length by their value.
+use mathlib.Core.Path.{_≡_, refl, sym, ap, _∙_}
+use mathlib.Core.List.{List, [], _∷_, _++_}
+use Prim.Native.Nat.{ℕ, suc, _+_, _*_, _<_, _^_}
+use native.Mathlib.Omega.{arith}
+use lib.ListN.{length, getD}
+use Rattle.laws.specs.Big.{bytes4, bytes8, bytesAll, big4, Below}
+use Rattle.laws.proofs.Big.{both, digits4, digits8, all-back, bytes-back, big4-back, big8-back}
+use Rattle.laws.proofs.Big.{big4-below, big8-below, tab-below, listed}
+use Rattle.laws.specs.Tab.{tab}
+use Rattle.laws.proofs.Tab.{length-tab}
+use Rattle.records.specs.declared.Report.{Report}
+use Rattle.records.specs.declared.Proposal.{Proposal}
+use Rattle.records.specs.declared.Notice.{Notice}
+use Rattle.records.specs.declared.View.{View}
+use Rattle.records.specs.Layout.{encodeReport, encodeProposal, encodeNotice, encodeView, sixteenAt}
+use Rattle.records.specs.Layout.{decodeReport, decodeProposal, decodeNotice, decodeView, checkOf, checkOwn}
+use Rattle.records.specs.Layout.{reportMark, proposalMark, noticeMark, viewMark, reportLength, proposalLength, noticeLength, viewLength}
+use Rattle.records.proofs.CheckLaws.{own-front, own-length, own-passes, report-checks, proposal-checks}
+use Rattle.records.proofs.Lengths.{report-length, proposal-length, notice-length, view-length}
+use Rattle.records.specs.Fits.{FitsSixteen, FitsReport, FitsProposal, FitsNotice, FitsView}
+
+-- a value by its bytes
+pub report-back : (r : Report) → FitsReport r → decodeReport (encodeReport r) ≡ r
+unfolding encodeReport decodeReport
+report-back r f = rw (digits8 (r .joining .bits) (f .joining), digits8 (r .leaving .bits) (f .leaving))
+
+pub notice-back : (n : Notice) → FitsNotice n → decodeNotice (encodeNotice n) ≡ n
+unfolding encodeNotice decodeNotice
+notice-back n f = rw (digits4 (n .start) (f .start), digits8 (n .members .bits) (f .members))
+
+sixteen-back : (a l : List ℕ) → FitsSixteen l → sixteenAt (a ++ bytesAll l) (length a) ≡ l
+sixteen-back a l f = all-back a l 16 (f .count) (f .each)
+
+pub view-back : (v : View) → FitsView v → decodeView (encodeView v) ≡ v
+unfolding encodeView decodeView
+view-back v f =
+    rw (
+      digits4 (v .number) (f .number),
+      digits8 (v .members .bits) (f .members),
+      sixteen-back (viewMark ++ bytes4 (v .number) ++ bytes8 (v .members .bits)) (v .starts) (f .starts),
+    )
+
+pub proposal-back : (p : Proposal) → FitsProposal p → decodeProposal (encodeProposal p) ≡ p
+unfolding encodeProposal decodeProposal
+proposal-back p f =
+    rw (
+      digits8 (p .members .bits) (f .members),
+      digits4 (p .start) (f .start),
+      digits4 (p .number) (f .number),
+      sixteen-back (proposalMark ++ (p .sender ∷ p .kind ∷ []) ++ bytes8 (p .members .bits) ++ bytes4 (p .start) ++ bytes4 (p .number))
+          (p .used) (f .used),
+    )
+
+-- the bytes of a value pass the two checks
+pub report-passes : (r : Report) → checkOwn reportMark reportLength (encodeReport r) ≡ 0
+unfolding encodeReport
+report-passes r = own-passes _ _ reportLength _ (report-length r)
+
+pub proposal-passes : (p : Proposal) → FitsProposal p → checkOwn proposalMark proposalLength (encodeProposal p) ≡ 0
+unfolding encodeProposal
+proposal-passes p f = own-passes _ _ proposalLength _ (proposal-length p (f .used .count))
+
+pub notice-passes : (n : Notice) → checkOwn noticeMark noticeLength (encodeNotice n) ≡ 0
+unfolding encodeNotice
+notice-passes n = own-passes _ _ noticeLength _ (notice-length n)
+
+pub view-passes : (v : View) → FitsView v → checkOwn viewMark viewLength (encodeView v) ≡ 0
+unfolding encodeView
+view-passes v f = own-passes _ _ viewLength _ (view-length v (f .starts .count))
+
+pub report-checked : (r : Report) → checkOf (encodeReport r) ≡ 0
+report-checked r = report-checks (encodeReport r) (report-passes r)
+
+pub proposal-checked : (p : Proposal) → FitsProposal p → checkOf (encodeProposal p) ≡ 0
+proposal-checked p f = proposal-checks (encodeProposal p) (proposal-passes p f)
+
+-- bytes by their value: a mark, and what the fields make of the rest
+module _ (b : List ℕ) (bytes : Below 256 b) where
+  whole : (x y n : ℕ) (rest : List ℕ) → x < 256 → y < 256 → checkOwn (x ∷ y ∷ []) (suc (suc n)) b ≡ 0
+      → rest ≡ tab n (λ k. getD b (suc (suc k)) 0) → x ∷ y ∷ rest ≡ b
+  unfolding tab
+  whole x y n rest hx hy c e =
+      let l = own-length (x ∷ y ∷ []) (suc (suc n)) b c in
+      let f = own-front x y (suc (suc n)) b bytes hx hy (omega arith) c in
+      let p : b ≡ tab (suc (suc n)) (λ k. getD b k 0) = listed b ∙ ap (λ (m : ℕ). tab m (λ k. getD b k 0)) l in
+      sym (p ∙ rw (f .0, f .1, e))
+
+  pub report-again : checkOwn reportMark reportLength b ≡ 0 → encodeReport (decodeReport b) ≡ b
+  unfolding encodeReport decodeReport tab
+  report-again c = whole _ _ 16 _ (omega arith) (omega arith) c (both (big8-back b bytes 2) (big8-back b bytes 10))
+
+  pub notice-again : checkOwn noticeMark noticeLength b ≡ 0 → encodeNotice (decodeNotice b) ≡ b
+  unfolding encodeNotice decodeNotice tab
+  notice-again c = whole _ _ 12 _ (omega arith) (omega arith) c (both (big4-back b bytes 2) (big8-back b bytes 6))
+
+  pub view-again : checkOwn viewMark viewLength b ≡ 0 → encodeView (decodeView b) ≡ b
+  unfolding encodeView decodeView tab
+  view-again c =
+      whole _ _ 76 _ (omega arith) (omega arith) c
+      (both (big4-back b bytes 2) (both (big8-back b bytes 6) (bytes-back 16 14 b bytes)))
+
+  pub proposal-again : checkOwn proposalMark proposalLength b ≡ 0 → encodeProposal (decodeProposal b) ≡ b
+  unfolding encodeProposal decodeProposal tab
+  proposal-again c =
+      whole _ _ 82 _ (omega arith) (omega arith) c
+      (both {a = getD b 2 0 ∷ getD b 3 0 ∷ []} refl
+      (both (big8-back b bytes 4) (both (big4-back b bytes 12) (both (big4-back b bytes 16) (bytes-back 16 20 b bytes)))))
+
+  -- what is read from bytes fits
+  sixteen-fits : (at : ℕ) → FitsSixteen (sixteenAt b at)
+  sixteen-fits at = record {
+    count = length-tab 16 (λ o. big4 b (at + 4 * o));
+    each = tab-below (2 ^ 32) 16 (λ o. big4 b (at + 4 * o)) (omega arith) (λ o. big4-below b bytes (at + 4 * o));
+  }
+
+  pub report-fits : FitsReport (decodeReport b)
+  unfolding decodeReport
+  report-fits = record { joining = big8-below b bytes 2; leaving = big8-below b bytes 10 }
+
+  pub proposal-fits : FitsProposal (decodeProposal b)
+  unfolding decodeProposal
+  proposal-fits = record {
+    sender = bytes 2;
+    kind = bytes 3;
+    members = big8-below b bytes 4;
+    start = big4-below b bytes 12;
+    number = big4-below b bytes 16;
+    used = sixteen-fits 20;
+  }
+
+  pub notice-fits : FitsNotice (decodeNotice b)
+  unfolding decodeNotice
+  notice-fits = record { start = big4-below b bytes 2; members = big8-below b bytes 6 }
+
+  pub view-fits : FitsView (decodeView b)
+  unfolding decodeView
+  view-fits = record { number = big4-below b bytes 2; members = big8-below b bytes 6; starts = sixteen-fits 14 }

@@ -1,0 +1,233 @@
+-- A state as a row of 425 words of 32 bits, and back. A set of seats is two words, the low one first.
+--   0 own office, 1 mode (0 none, 1 fast, 2 slow), 2-3 net view, 4-5 members of the current view,
+--   6 + 5o for office o: present (0 or 1), sender, kind, members (2 words) of its stored proposal;
+--   then all numbers: 86 start number, 87 proposal number, 88 view number, 89-104 the view's start numbers, 105-120 last accepted,
+--   121-136 used numbers, 137 + 18o for office o: start number, proposal number, sixteen used numbers of its stored proposal.
+use mathlib.Core.Path.{_≡_}
+use mathlib.Core.Bool.{Bool, not, _&&_}
+use mathlib.Core.List.{List, [], _∷_, _++_}
+use Prim.Native.Nat.{ℕ, zero, suc, _+_, _*_, _<_, _≤_, _/_, _%_}
+use lib.ListN.{length, getD}
+use lib.Dec.{eqb, leb}
+use Rattle.laws.specs.Fin.{allb}
+use Rattle.laws.specs.Tab.{tab}
+use Rattle.laws.specs.Upd.{ifb, upd}
+use Rattle.seats.specs.declared.SeatSet.{SeatSet}
+use Rattle.records.specs.declared.View.{View}
+use Rattle.rules.specs.State.{Mode, None, Fast, Slow, Slot, State, kindOf, storedAt, acceptedAt, usedAt}
+use Rattle.rules.specs.Rules.{inSlot}
+use Rattle.rules.specs.Refusals.{wellFormed}
+
+abbrev pub word : ℕ
+word = 4294967296
+
+-- the places
+abbrev pub rowLength : ℕ
+rowLength = 425
+
+abbrev pub ownPlace : ℕ
+ownPlace = 0
+
+abbrev pub modePlace : ℕ
+modePlace = 1
+
+abbrev pub netPlace : ℕ
+netPlace = 2
+
+abbrev pub membersPlace : ℕ
+membersPlace = 4
+
+abbrev pub slotPlace : ℕ → ℕ
+slotPlace o = 6 + 5 * o
+
+abbrev pub startPlace : ℕ
+startPlace = 86
+
+abbrev pub numberPlace : ℕ
+numberPlace = 87
+
+abbrev pub viewPlace : ℕ
+viewPlace = 88
+
+abbrev pub startsPlace : ℕ
+startsPlace = 89
+
+abbrev pub acceptedPlace : ℕ
+acceptedPlace = 105
+
+abbrev pub usedPlace : ℕ
+usedPlace = 121
+
+abbrev pub numbersPlace : ℕ → ℕ
+numbersPlace o = 137 + 18 * o
+
+-- reading
+unfoldable pub setAt : List ℕ → ℕ → SeatSet
+setAt ws k = record { bits = getD ws k 0 + word * getD ws (k + 1) 0 }
+
+abbrev pub modeOf : ℕ → Mode
+modeOf zero = None
+modeOf (suc zero) = Fast
+modeOf (suc (suc n)) = Slow
+
+abbrev pub sixteenAt : List ℕ → ℕ → List ℕ
+sixteenAt ws k = tab 16 (λ o. getD ws (k + o) 0)
+
+unfoldable pub slotOf : List ℕ → ℕ → Slot
+slotOf ws o =
+    record {
+      present = not (eqb (getD ws (slotPlace o) 0) 0);
+      proposal =
+          record {
+            sender = getD ws (slotPlace o + 1) 0;
+            kind = getD ws (slotPlace o + 2) 0;
+            members = setAt ws (slotPlace o + 3);
+            start = getD ws (numbersPlace o) 0;
+            number = getD ws (numbersPlace o + 1) 0;
+            used = sixteenAt ws (numbersPlace o + 2);
+          };
+    }
+
+unfoldable pub stateOf : List ℕ → State
+stateOf ws =
+    record {
+      own = getD ws ownPlace 0;
+      mode = modeOf (getD ws modePlace 0);
+      net = setAt ws netPlace;
+      stored = tab 16 (slotOf ws);
+      accepted = sixteenAt ws acceptedPlace;
+      view = record { number = getD ws viewPlace 0; members = setAt ws membersPlace; starts = sixteenAt ws startsPlace };
+      start = getD ws startPlace 0;
+      number = getD ws numberPlace 0;
+      used = sixteenAt ws usedPlace;
+    }
+
+-- writing
+abbrev pub flag : Bool → ℕ
+flag b = ifb b 1 0
+
+abbrev pub setWords : SeatSet → List ℕ
+setWords x = x .bits % word ∷ x .bits / word ∷ []
+
+abbrev pub slotWords : Slot → List ℕ
+slotWords v = flag (v .present) ∷ v .proposal .sender ∷ v .proposal .kind ∷ setWords (v .proposal .members)
+
+abbrev pub slotNumbers : Slot → List ℕ
+slotNumbers v = v .proposal .start ∷ v .proposal .number ∷ v .proposal .used
+
+module _ {A : Type 0} where
+  abbrev pub each : (A → List ℕ) → List A → List ℕ
+  each f [] = []
+  each f (x ∷ l) = f x ++ each f l
+
+unfoldable pub wordsOf : State → List ℕ
+wordsOf s =
+    s .own ∷ kindOf (s .mode) ∷ (setWords (s .net) ++ (setWords (s .view .members) ++ (each slotWords (s .stored)
+    ++ (s .start ∷ s .number ∷ s .view .number ∷ (s .view .starts ++ (s .accepted ++ (s .used ++ each slotNumbers (s .stored))))))))
+
+-- a row: its length, presence words of 0 or 1, a mode word of 0 to 2
+pub record Row (ws : List ℕ) : Type 0 where
+  pub long : length ws ≡ rowLength
+  pub flags : (o : ℕ) → o < 16 → getD ws (slotPlace o) 0 ≤ 1
+  pub mode : getD ws modePlace 0 ≤ 2
+
+unfoldable pub isRow : List ℕ → Bool
+isRow ws = eqb (length ws) rowLength && leb (getD ws modePlace 0) 2 && allb 16 (λ o. leb (getD ws (slotPlace o) 0) 1)
+
+-- a state whose lists have their lengths: just such a state is held by its words
+pub record Shaped (s : State) : Type 0 where
+  pub stored : length (s .stored) ≡ 16
+  pub accepted : length (s .accepted) ≡ 16
+  pub used : length (s .used) ≡ 16
+  pub starts : length (s .view .starts) ≡ 16
+  pub slots : (o : ℕ) → length (storedAt s o .proposal .used) ≡ 16
+
+-- a row whose state passes check 2
+unfoldable pub soundRow : List ℕ → Bool
+soundRow ws = isRow ws && wellFormed (stateOf ws)
+
+-- a row whose numbers are all so low that no event makes one above L
+-- the numbers stand side by side
+abbrev pub numbersCount : ℕ
+numbersCount = 339
+
+abbrev pub low : ℕ
+low = 1_073_741_823
+
+unfoldable pub lowRow : List ℕ → Bool
+lowRow ws = isRow ws && leb (getD ws ownPlace 0) 15 && allb numbersCount (λ k. leb (getD ws (startPlace + k) 0) low)
+
+pub record Low (s : State) : Type 0 where
+  pub own : s .own < 16
+  pub view : s .view .number ≤ low
+  pub start : s .start ≤ low
+  pub number : s .number ≤ low
+  pub stored : (o : ℕ) → o < 16 → (inSlot s o .start ≤ low) × (inSlot s o .number ≤ low)
+
+-- changes of a state
+abbrev pub withMode : Mode → State → State
+withMode m s =
+    record { own = s .own; mode = m; net = s .net; stored = s .stored; accepted = s .accepted; view = s .view; start = s .start; number = s .number; used = s .used }
+
+abbrev pub withNetSet : SeatSet → State → State
+withNetSet x s =
+    record { own = s .own; mode = s .mode; net = x; stored = s .stored; accepted = s .accepted; view = s .view; start = s .start; number = s .number; used = s .used }
+
+abbrev pub withStart : ℕ → State → State
+withStart n s =
+    record { own = s .own; mode = s .mode; net = s .net; stored = s .stored; accepted = s .accepted; view = s .view; start = n; number = s .number; used = s .used }
+
+abbrev pub withNumber : ℕ → State → State
+withNumber n s =
+    record { own = s .own; mode = s .mode; net = s .net; stored = s .stored; accepted = s .accepted; view = s .view; start = s .start; number = n; used = s .used }
+
+abbrev pub withView : View → State → State
+withView v s =
+    record { own = s .own; mode = s .mode; net = s .net; stored = s .stored; accepted = s .accepted; view = v; start = s .start; number = s .number; used = s .used }
+
+abbrev pub withStored : ℕ → Slot → State → State
+withStored o v s =
+    record {
+      own = s .own;
+      mode = s .mode;
+      net = s .net;
+      stored = tab 16 (upd (storedAt s) o v);
+      accepted = s .accepted;
+      view = s .view;
+      start = s .start;
+      number = s .number;
+      used = s .used;
+    }
+
+abbrev pub withAccepted : ℕ → ℕ → State → State
+withAccepted o n s =
+    record {
+      own = s .own;
+      mode = s .mode;
+      net = s .net;
+      stored = s .stored;
+      accepted = tab 16 (upd (acceptedAt s) o n);
+      view = s .view;
+      start = s .start;
+      number = s .number;
+      used = s .used;
+    }
+
+abbrev pub withUsed : ℕ → ℕ → State → State
+withUsed o n s =
+    record {
+      own = s .own;
+      mode = s .mode;
+      net = s .net;
+      stored = s .stored;
+      accepted = s .accepted;
+      view = s .view;
+      start = s .start;
+      number = s .number;
+      used = tab 16 (upd (usedAt s) o n);
+    }
+
+-- what a call that changes a row leaves: the state changed by f, in a row
+pub record Changed (f : State → State) (before after : List ℕ) : Type 0 where
+  pub is : stateOf after ≡ f (stateOf before)
+  pub row : Row after

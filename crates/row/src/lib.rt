@@ -1,0 +1,27 @@
+// The state of an office in a row of words that the caller lends; inner to the layer of the step. Contracts speak of the record State;
+// no function above this crate, `row_stores`, `row_changes` and `row_checks` names a place of the row.
+pub mod places;
+mod readers;
+
+pub use readers::accepted;
+pub use readers::mode;
+pub use readers::net;
+pub use readers::number;
+pub use readers::own;
+pub use readers::start;
+pub use readers::stored_kind;
+pub use readers::stored_members;
+pub use readers::stored_number;
+pub use readers::stored_present;
+pub use readers::stored_start;
+pub use readers::stored_used;
+pub use readers::used;
+pub use readers::view_number;
+
+pub const WORDS: usize = 425;
+
+// L.
+pub const LIMIT: u32 = 2_000_000_000;
+
+// Numbers up to this make none above L in one event.
+pub const LOW: u32 = 1_073_741_823;

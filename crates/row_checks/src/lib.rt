@@ -1,0 +1,117 @@
+// Whether words are a row, and check 2 of the state that it holds; inner to the layer of the step.
+use row::LIMIT;
+use row::LOW;
+use row::WORDS;
+use row::places;
+use row::stored_present;
+ghost use mathlib.Core.Path.{_≡_};
+ghost use Prim.Native.Nat.{_+_, _*_, _<_, _≤_};
+ghost use lib.Dec.{leb};
+ghost use lib.ListN.{length, getD};
+ghost use Rattle.laws.specs.Fin.{allb};
+ghost use Rattle.rules.specs.State.{storedAt};
+ghost use Rattle.rules.specs.Refusals.{within, slotWithin, wellFormed};
+ghost use Rattle.row.specs.Row.{Row, stateOf, isRow, soundRow, lowRow, low, startPlace, numbersCount};
+
+const LAST_OFFICE: u32 = 15;
+
+// Check 2 with its row: the length, presence and mode words, and the state that they hold.
+pub fn is_sound(s: &[u32]) -> bool
+    ensures { λ r. ⌜ r ≡ soundRow (now (s .entry)) ⌝ }
+{
+    if is_row(s) {
+        return is_well_formed(s);
+    }
+    false
+}
+
+// A row whose numbers are all low: one pass over the numbers, which passes for nearly every state.
+pub fn is_low(s: &[u32]) -> bool
+    ensures { λ r. ⌜ r ≡ lowRow (now (s .entry)) ⌝ }
+{
+    if is_row(s) {
+        return (s[places::OWN] <= LAST_OFFICE) & (all_numbers(s) <= LOW);
+    }
+    false
+}
+
+fn is_row(s: &[u32]) -> bool
+    ensures { λ r. ⌜ r ≡ isRow (now (s .entry)) ⌝ }
+{
+    if s.len() != WORDS {
+        return false;
+    }
+    let mut ok = true;
+    let mut o: usize = 0;
+    while o < 16 {
+        ok = (s[places::SLOTS + places::SLOT * o] <= 1) & ok;
+        o += 1;
+    }
+    (s[places::MODE] <= 2) & ok
+}
+
+fn is_well_formed(s: &[u32]) -> bool
+    requires { ⌜ Row (now s) ⌝ }
+    ensures { λ r. ⌜ r ≡ wellFormed (stateOf (now (s .entry))) ⌝ }
+{
+    (s[places::OWN] <= LAST_OFFICE)
+        & (s[places::VIEW] <= LIMIT)
+        & (s[places::START] <= LIMIT)
+        & (s[places::NUMBER] <= LIMIT)
+        & are_within(s, places::STARTS)
+        & are_within(s, places::ACCEPTED)
+        & are_within(s, places::USED)
+        & slots_within(s)
+}
+
+// The digits of all numbers together: at most LOW, which is all ones, just where each number is.
+fn all_numbers(s: &[u32]) -> u32
+    requires { ⌜ Row (now s) ⌝ }
+    ensures { λ r. ⌜ leb r low ≡ allb numbersCount (λ k. leb (getD (now (s .entry)) (startPlace + k) 0) low) ⌝ }
+{
+    let mut all = 0u32;
+    let mut k: usize = 0;
+    while k < places::NUMBERS {
+        all = all | s[places::START + k];
+        k += 1;
+    }
+    all
+}
+
+// Whether the sixteen numbers from a place on are at most L.
+fn are_within(s: &[u32], at: usize) -> bool
+    requires { ⌜ at + 16 ≤ length (now s) ⌝ }
+    ensures { λ r. ⌜ r ≡ allb 16 (λ k. within (getD (now (s .entry)) (at + k) 0)) ⌝ }
+{
+    let mut ok = true;
+    let mut k: usize = 0;
+    while k < 16 {
+        ok = (s[at + k] <= LIMIT) & ok;
+        k += 1;
+    }
+    ok
+}
+
+fn slot_within(s: &[u32], o: usize) -> bool
+    requires { ⌜ Row (now s) × (o < 16) ⌝ }
+    ensures { λ r. ⌜ r ≡ slotWithin (storedAt (stateOf (now (s .entry))) o) ⌝ }
+{
+    let at = places::STORED_NUMBERS + places::STORED * o;
+    !stored_present(s, o)
+        | ((s[at] <= LIMIT)
+            & (s[at + places::STORED_NUMBER] <= LIMIT)
+            & are_within(s, at + places::STORED_USED))
+}
+
+fn slots_within(s: &[u32]) -> bool
+    requires { ⌜ Row (now s) ⌝ }
+    ensures { λ r. ⌜ r ≡ allb 16 (λ o. slotWithin (storedAt (stateOf (now (s .entry))) o)) ⌝ }
+{
+    let mut ok = true;
+    let mut o: usize = 0;
+    while o < 16 {
+        ok = slot_within(s, o) & ok;
+        o += 1;
+    }
+    ok
+}

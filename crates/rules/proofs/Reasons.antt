@@ -1,0 +1,62 @@
+-- Which numbers come back: a step gives 0 or a reason from 2 to 13, making a state gives 0 or 1.
+use mathlib.Core.Path.{_≡_, refl}
+use mathlib.Core.Bool.{true, _&&_, not}
+use mathlib.Core.Logic.{_⊎_, inl, inr}
+use mathlib.Core.List.{List, [], _∷_}
+use Prim.Native.Nat.{ℕ, _≤_}
+use lib.ListN.{length}
+use lib.Dec.{eqb, ltb, leb}
+use Rattle.laws.proofs.Fin.{if-cases, as-facts}
+use Rattle.records.specs.Layout.{formOf, checkFor, checkOf}
+use Rattle.rules.specs.State.{State}
+use Rattle.rules.specs.Refusals.{wellFormed, fullRoom, Check, firstOf, Made, madeOf, unreadable, Event, aReport, aProposal, eventOf, proposalChecks, refusalOf}
+use Rattle.rules.specs.Refusals.{ruleOf, Result, accepting, actOf, stepOf}
+use Rattle.rules.proofs.Written.{Every, none, more}
+
+-- 0, or from 2 to 13
+pub data Answer (n : ℕ) : Type 0 where
+  accepts : n ≡ 0 → Answer n
+  refuses : 2 ≤ n → n ≤ 13 → Answer n
+
+-- the first of checks with such numbers
+first-answer : (cs : List Check) → Every (λ c. Answer (c .number)) cs → Answer (firstOf cs)
+first-answer [] none = accepts refl
+first-answer (c ∷ cs) (more a e) = if-cases Answer (c .applies) (c .number) (firstOf cs) (λ t. a) (λ t. first-answer cs e)
+
+reason : (n : ℕ) → leb 2 n && leb n 13 ≡ true → Answer n
+reason n e = let f = simp as-facts at e in refuses (f .0) (f .1)
+
+checked-answer : (b : List ℕ) → Answer (checkOf b)
+unfolding checkOf checkFor
+checked-answer b =
+    let n = formOf b .length in
+    if-cases Answer (eqb n 0) _ _ (λ e. reason 4 refl) (λ e. if-cases Answer (eqb (length b) n) _ _ (λ f. accepts refl) (λ f. reason 5 refl))
+
+unreadable-answer : (s : State) (b : List ℕ) (room : ℕ) → Answer (unreadable s b room)
+unfolding unreadable
+unreadable-answer s b room =
+    if-cases Answer (not (wellFormed s)) _ _ (λ e. reason 2 refl)
+    (λ e. if-cases Answer (ltb room fullRoom) _ _ (λ e. reason 3 refl)
+    (λ e. if-cases Answer (not (eqb (checkOf b) 0)) _ _ (λ e. checked-answer b) (λ e. accepts refl)))
+
+event-answer : (s : State) (e : Event) → Answer (refusalOf s e)
+unfolding proposalChecks
+event-answer s (aReport r) = accepts refl
+event-answer s (aProposal p) = first-answer (proposalChecks s p)
+    (more (reason 6 refl) (more (reason 7 refl) (more (reason 8 refl) (more (reason 9 refl)
+    (more (reason 10 refl) (more (reason 11 refl) (more (reason 12 refl) none)))))))
+
+act-answer : (s : State) (e : Event) → Answer (actOf s e .refusal)
+unfolding actOf accepting
+act-answer s e = if-cases (λ (r : Result). Answer (r .refusal)) (eqb (refusalOf s e) 0) _ _
+    (λ t. if-cases (λ (r : Result). Answer (r .refusal)) (wellFormed (ruleOf s e .state)) _ _ (λ w. accepts refl) (λ w. reason 13 refl))
+    (λ t. event-answer s e)
+
+pub step-answer : (s : State) (b : List ℕ) (room : ℕ) → Answer (stepOf s b room .refusal)
+unfolding stepOf
+step-answer s b room = if-cases (λ (r : Result). Answer (r .refusal)) (eqb (unreadable s b room) 0) _ _
+    (λ t. act-answer s (eventOf b)) (λ t. unreadable-answer s b room)
+
+pub made-answer : (o : ℕ) → (madeOf o .refusal ≡ 0) ⊎ (madeOf o .refusal ≡ 1)
+unfolding madeOf
+made-answer o = if-cases (λ (m : Made). (m .refusal ≡ 0) ⊎ (m .refusal ≡ 1)) (leb o 15) _ _ (λ e. inl refl) (λ e. inr refl)

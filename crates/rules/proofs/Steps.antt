@@ -1,0 +1,267 @@
+-- The checks as plain facts, and the step by cases: refused, or accepted with what is then known.
+use mathlib.Core.Path.{_≡_, refl, ap, _∙_}
+use mathlib.Core.Bool.{Bool, true, false, _&&_, not}
+use mathlib.Core.Logic.{_⊎_, inl, inr, _↔_}
+use mathlib.Core.List.{List, [], _∷_}
+use Prim.Native.Nat.{ℕ, suc, _≤_, _<_}
+use native.Mathlib.Omega.{arith}
+use native.Mathlib.Decide.{ℕ-discrete}
+use lib.ListN.{getD}
+use lib.Dec.{eqb, ltb}
+use borrow.Author.Tests.{ltb-false, leb-false, eqb-true, not-false, le-ltb, lt-leb, ne-eqb}
+use Rattle.laws.proofs.Fin.{anyb-none, none-anyb, as-facts, or-cases, true-false}
+use Rattle.laws.specs.Upd.{ifb}
+use Rattle.seats.specs.Seats.{serves}
+use Rattle.records.specs.Layout.{encodeReport, encodeProposal, checkOf}
+use Rattle.records.specs.Fits.{FitsReport, FitsProposal}
+use Rattle.records.proofs.RoundTrip.{proposal-back, report-checked, proposal-checked}
+use Rattle.records.specs.declared.Report.{Report}
+use Rattle.records.specs.declared.Proposal.{Proposal}
+use Rattle.rules.specs.State.{Slot, State, fast, slow, storedAt, acceptedAt, usedAt, usedFor}
+use Rattle.rules.proofs.Encoded.{report-event, proposal-event}
+use Rattle.rules.specs.Rules.{Outcome}
+use Rattle.rules.specs.Refusals.{limit, fullRoom, within, slotWithin, wellFormed, firstOf, unreadable, Event, aReport, aProposal, eventOf, wrongSender}
+use Rattle.rules.specs.Refusals.{wrongKind, wrongNumber, withoutSeat, strayUsed, notAbove, usedAhead, proposalChecks, refusalOf, ruleOf, Result}
+use Rattle.rules.specs.Refusals.{refused, accepting, actOf, stepOf}
+
+-- what a stored proposal that passes check 2 satisfies
+pub record SlotWithin (v : Slot) : Type 0 where
+  pub start : v .proposal .start ≤ limit
+  pub number : v .proposal .number ≤ limit
+  pub used : (o : ℕ) → o < 16 → usedFor (v .proposal) o ≤ limit
+
+-- what a state that passes check 2 satisfies
+pub record WellFormed (s : State) : Type 0 where
+  pub own : s .own < 16
+  pub view : s .view .number ≤ limit
+  pub start : s .start ≤ limit
+  pub number : s .number ≤ limit
+  pub starts : (o : ℕ) → o < 16 → getD (s .view .starts) o 0 ≤ limit
+  pub accepted : (o : ℕ) → o < 16 → acceptedAt s o ≤ limit
+  pub used : (o : ℕ) → o < 16 → usedAt s o ≤ limit
+  pub stored : (o : ℕ) → o < 16 → storedAt s o .present ≡ true → SlotWithin (storedAt s o)
+
+slot-facts : (v : Slot) → slotWithin v ≡ true → v .present ≡ true → SlotWithin v
+unfolding slotWithin
+slot-facts v e p = let f = simp (p, as-facts) at e in record { start = f .0 .0; number = f .0 .1; used = f .1 }
+
+facts-slot : (v : Slot) → (v .present ≡ true → SlotWithin v) → slotWithin v ≡ true
+unfolding slotWithin
+facts-slot v h = go (v .present) refl
+  where
+    go : (t : Bool) → v .present ≡ t → slotWithin v ≡ true
+    go false e = rw e
+    go true e = let f = h e in simp (e, as-facts) ((f .start, f .number), f .used)
+
+pub well-facts : (s : State) → wellFormed s ≡ true → WellFormed s
+unfolding wellFormed
+well-facts s e =
+    let f = simp as-facts at e in
+    record {
+      own = omega arith;
+      view = f .0 .0 .0 .0 .0 .0 .1;
+      start = f .0 .0 .0 .0 .0 .1;
+      number = f .0 .0 .0 .0 .1;
+      starts = f .0 .0 .0 .1;
+      accepted = f .0 .0 .1;
+      used = f .0 .1;
+      stored = λ o l. slot-facts (storedAt s o) (f .1 o l);
+    }
+
+pub facts-well : (s : State) → WellFormed s → wellFormed s ≡ true
+unfolding wellFormed
+facts-well s h =
+    let own : s .own ≤ 15 = omega arith in
+    simp as-facts
+    (((((((own, h .view), h .start), h .number), h .starts), h .accepted), h .used), λ o l. facts-slot (storedAt s o) (h .stored o l))
+
+-- what a proposal that passes checks 6 to 12 satisfies
+pub record Passes (s : State) (p : Proposal) : Type 0 where
+  pub sender : p .sender < 16
+  pub other : p .sender ≡ s .own → ⊥
+  pub kind : (p .kind ≡ fast) ⊎ (p .kind ≡ slow)
+  pub start : (0 < p .start) × (p .start ≤ limit)
+  pub number : (0 < p .number) × (p .number ≤ limit)
+  pub used : (o : ℕ) → o < 16 → usedFor p o ≤ limit
+  pub seat : serves (p .members .bits) (p .sender) ≡ true
+  pub ownSeat : serves (p .members .bits) (s .own) ≡ true
+  pub stray : (o : ℕ) → o < 16 → serves (p .members .bits) o ≡ false → usedFor p o ≡ 0
+  pub above : acceptedAt s (p .sender) < p .number
+  pub behind : usedFor p (s .own) ≤ s .number
+
+-- no check of a list applies
+first-none : (t : Bool) (n r : ℕ) → (ifb t (suc n) r ≡ 0) ↔ ((t ≡ false) × (r ≡ 0))
+first-none true n r = (λ e. absurd (omega arith), λ h. absurd (true-false true refl (h .0)))
+first-none false n r = (λ e. (refl, e), λ h. h .1)
+
+stray-out : (a : Bool) (n : ℕ) → not a && not (eqb n 0) ≡ false → a ≡ false → n ≡ 0
+stray-out true n e f = absurd (true-false true refl f)
+stray-out false n e f = simp as-facts at e
+
+stray-in : (a : Bool) (n : ℕ) → (a ≡ false → n ≡ 0) → not a && not (eqb n 0) ≡ false
+stray-in true n h = refl
+stray-in false n h = simp as-facts (h refl)
+
+pub check-facts : (s : State) (p : Proposal) → firstOf (proposalChecks s p) ≡ 0 → Passes s p
+unfolding proposalChecks wrongSender wrongKind wrongNumber withoutSeat strayUsed notAbove usedAhead
+check-facts s p e =
+    let c6 = first-none (wrongSender (s .own) p) 5 _ .0 e in
+    let c7 = first-none (wrongKind p) 6 _ .0 (c6 .1) in
+    let c8 = first-none (wrongNumber p) 7 _ .0 (c7 .1) in
+    let c9 = first-none (withoutSeat (s .own) p) 8 _ .0 (c8 .1) in
+    let c10 = first-none (strayUsed p) 9 _ .0 (c9 .1) in
+    let c11 = first-none (notAbove s p) 10 _ .0 (c10 .1) in
+    let c12 = first-none (usedAhead s p) 11 0 .0 (c11 .1) in
+    let f6 = simp as-facts at (c6 .0) in
+    let f8 = simp as-facts at (c8 .0) in
+    let f9 = simp as-facts at (c9 .0) in
+    record {
+      sender = omega arith;
+      other = f6 .1;
+      kind = kinds (or-cases (eqb (p .kind) fast) (eqb (p .kind) slow) (not-false _ (c7 .0)));
+      start = (omega arith, omega arith);
+      number = (omega arith, omega arith);
+      used = λ o l. let u = f8 .1 o l in omega arith;
+      seat = f9 .0;
+      ownSeat = f9 .1;
+      stray = λ o l. stray-out (serves (p .members .bits) o) (usedFor p o) (anyb-none 16 _ (c10 .0) o l);
+      above = leb-false _ _ (c11 .0);
+      behind = ltb-false _ _ (c12 .0);
+    }
+  where
+    kinds : (eqb (p .kind) fast ≡ true) ⊎ (eqb (p .kind) slow ≡ true) → (p .kind ≡ fast) ⊎ (p .kind ≡ slow)
+    kinds (inl e) = inl (eqb-true (p .kind) fast e)
+    kinds (inr e) = inr (eqb-true (p .kind) slow e)
+
+pub facts-check : (s : State) (p : Proposal) → Passes s p → firstOf (proposalChecks s p) ≡ 0
+unfolding proposalChecks wrongSender wrongKind wrongNumber withoutSeat strayUsed notAbove usedAhead
+facts-check s p h =
+    let number : (n : ℕ) → (0 < n) × (n ≤ limit) → (n ≡ 0 → ⊥) × (n < suc limit) = λ n l. (omega arith, omega arith) in
+    let a = number (p .start) (h .start) in
+    let b = number (p .number) (h .number) in
+    let c6 : wrongSender (s .own) p ≡ false = simp as-facts (h .sender, h .other) in
+    let c7 : wrongKind p ≡ false = kinds (h .kind) in
+    let c8 : wrongNumber p ≡ false = simp as-facts ((((a .0, a .1), b .0), b .1), λ o l. let u = h .used o l in omega arith) in
+    let c9 : withoutSeat (s .own) p ≡ false = simp as-facts (h .seat, h .ownSeat) in
+    let c10 : strayUsed p ≡ false = none-anyb 16 _ (λ o l. stray-in (serves (p .members .bits) o) (usedFor p o) (h .stray o l)) in
+    let c11 : notAbove s p ≡ false = lt-leb _ _ (h .above) in
+    let c12 : usedAhead s p ≡ false = le-ltb _ _ (h .behind) in
+    rw (c6, c7, c8, c9, c10, c11, c12)
+  where
+    kinds : (p .kind ≡ fast) ⊎ (p .kind ≡ slow) → wrongKind p ≡ false
+    kinds (inl e) = rw e
+    kinds (inr e) = rw e
+
+-- what comes back when an event is accepted
+abbrev pub accepted : Outcome → Result
+accepted o = record { refusal = 0; written = o .written; state = o .state }
+
+-- the step refuses: it leaves the state and writes nothing
+pub record Refused (s : State) (r : Result) : Type 0 where
+  pub reason : r .refusal ≡ 0 → ⊥
+  pub is : r ≡ refused (r .refusal) s
+
+-- acting on an event accepts it
+pub record AcceptsEvent (s : State) (e : Event) : Type 0 where
+  pub passes : refusalOf s e ≡ 0
+  pub within : wellFormed (ruleOf s e .state) ≡ true
+
+-- the step accepts: every check passes
+pub record Accepts (s : State) (b : List ℕ) (room : ℕ) : Type 0 where
+  pub well : wellFormed s ≡ true
+  pub fits : fullRoom ≤ room
+  pub readable : checkOf b ≡ 0
+  pub acts : AcceptsEvent s (eventOf b)
+
+pub act-accepts : (s : State) (e : Event) → AcceptsEvent s e → actOf s e ≡ accepted (ruleOf s e)
+unfolding actOf accepting
+act-accepts s e h = rw (h .passes, h .within)
+
+pub act-cases : (s : State) (e : Event) → Refused s (actOf s e) ⊎ AcceptsEvent s e
+unfolding actOf accepting
+act-cases s e = go (ℕ-discrete (refusalOf s e) 0) (wellFormed (ruleOf s e .state)) refl
+  where
+    go : Dec (refusalOf s e ≡ 0) → (t : Bool) → wellFormed (ruleOf s e .state) ≡ t → Refused s (actOf s e) ⊎ AcceptsEvent s e
+    go (no n) t w = inl (rw (ne-eqb (refusalOf s e) 0 n) (record { reason = n; is = refl }))
+    go (yes z) true w = inr (record { passes = z; within = w })
+    go (yes z) false w = inl (rw (z, w) (record { reason = omega arith; is = refl }))
+
+no-reason : (n : ℕ) → ifb (not (eqb n 0)) n 0 ≡ 0 → n ≡ 0
+no-reason n e = go (ℕ-discrete n 0)
+  where
+    go : Dec (n ≡ 0) → n ≡ 0
+    go (yes z) = z
+    go (no z) = rw (ne-eqb n 0 z) at e
+
+-- checks 2 to 5 pass
+pub readable-facts : (s : State) (b : List ℕ) (room : ℕ)
+    → (unreadable s b room ≡ 0) ↔ ((wellFormed s ≡ true) × (fullRoom ≤ room) × (checkOf b ≡ 0))
+unfolding unreadable
+readable-facts s b room = (
+  λ e.
+      let c2 = first-none (not (wellFormed s)) 1 _ .0 e in
+      let c3 = first-none (ltb room fullRoom) 2 _ .0 (c2 .1) in
+      (not-false _ (c2 .0), ltb-false room fullRoom (c3 .0), no-reason (checkOf b) (c3 .1)),
+  λ h. rw (h .0, le-ltb room fullRoom (h .1), h .2),
+)
+
+pub step-accepts : (s : State) (b : List ℕ) (room : ℕ) → Accepts s b room → stepOf s b room ≡ accepted (ruleOf s (eventOf b))
+unfolding stepOf
+step-accepts s b room h =
+    let r = readable-facts s b room .1 (h .well, h .fits, h .readable) in
+    rw r (act-accepts s (eventOf b) (h .acts))
+
+pub step-cases : (s : State) (b : List ℕ) (room : ℕ) → Refused s (stepOf s b room) ⊎ Accepts s b room
+unfolding stepOf
+step-cases s b room = go (ℕ-discrete (unreadable s b room) 0) (act-cases s (eventOf b))
+  where
+    go : Dec (unreadable s b room ≡ 0) → Refused s (actOf s (eventOf b)) ⊎ AcceptsEvent s (eventOf b) → Refused s (stepOf s b room) ⊎ Accepts s b room
+    go (no n) a = inl (rw (ne-eqb (unreadable s b room) 0 n) (record { reason = n; is = refl }))
+    go (yes z) (inl r) = inl (rw z r)
+    go (yes z) (inr a) =
+        let f = readable-facts s b room .0 z in
+        inr (record { well = f .0; fits = f .1; readable = f .2; acts = a })
+
+-- a refusal leaves the state and writes nothing
+pub refused-keeps : (s : State) (b : List ℕ) (room : ℕ) → (stepOf s b room .refusal ≡ 0 → ⊥)
+    → stepOf s b room ≡ refused (stepOf s b room .refusal) s
+refused-keeps s b room n = go (step-cases s b room)
+  where
+    go : Refused s (stepOf s b room) ⊎ Accepts s b room → stepOf s b room ≡ refused (stepOf s b room .refusal) s
+    go (inl r) = r .is
+    go (inr a) = absurd (n (ap (λ (r : Result). r .refusal) (step-accepts s b room a)))
+
+-- an accepted step passes every check
+pub zero-accepts : (s : State) (b : List ℕ) (room : ℕ) → stepOf s b room .refusal ≡ 0 → Accepts s b room
+zero-accepts s b room z = go (step-cases s b room)
+  where
+    go : Refused s (stepOf s b room) ⊎ Accepts s b room → Accepts s b room
+    go (inl r) = absurd (r .reason z)
+    go (inr a) = a
+
+-- and leaves a state that passes check 2
+pub step-well : (s : State) (b : List ℕ) (room : ℕ) → wellFormed s ≡ true → wellFormed (stepOf s b room .state) ≡ true
+step-well s b room w = go (step-cases s b room)
+  where
+    go : Refused s (stepOf s b room) ⊎ Accepts s b room → wellFormed (stepOf s b room .state) ≡ true
+    go (inl r) = rw (r .is) w
+    go (inr a) = rw (step-accepts s b room a) (a .acts .within)
+
+-- checks 2 and 3 alone, and an event that meets them: what the step is on the bytes of a record that fits
+unfoldable pub unready : State → ℕ → ℕ
+unready s room =
+    firstOf (record { number = 2; applies = not (wellFormed s) } ∷ record { number = 3; applies = ltb room fullRoom } ∷ [])
+
+unfoldable pub onEvent : State → Event → ℕ → Result
+onEvent s e room = ifb (eqb (unready s room) 0) (actOf s e) (refused (unready s room) s)
+
+step-on-event : (s : State) (b : List ℕ) (e : Event) (room : ℕ) → checkOf b ≡ 0 → eventOf b ≡ e → stepOf s b room ≡ onEvent s e room
+unfolding stepOf onEvent unready unreadable
+step-on-event s b e room c q = rw (c, q)
+
+pub step-report : (s : State) (r : Report) (room : ℕ) → FitsReport r → stepOf s (encodeReport r) room ≡ onEvent s (aReport r) room
+step-report s r room f = step-on-event s (encodeReport r) (aReport r) room (report-checked r) (report-event r f)
+
+pub step-proposal : (s : State) (p : Proposal) (room : ℕ) → FitsProposal p → stepOf s (encodeProposal p) room ≡ onEvent s (aProposal p) room
+step-proposal s p room f = step-on-event s (encodeProposal p) (aProposal p) room (proposal-checked p f)
+    (proposal-event p ∙ ap aProposal (proposal-back p f))

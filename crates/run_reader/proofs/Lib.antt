@@ -1,0 +1,3 @@
+-- The laws of the reading of a run.
+pub mod RunLaws
+pub mod Growing

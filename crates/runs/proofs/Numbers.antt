@@ -1,0 +1,297 @@
+-- The numbers of the offices of F after each part of an event, and after every event.
+use mathlib.Core.Path.{_≡_, refl, sym, _∙_}
+use mathlib.Core.Bool.{Bool, true, false, _&&_, not}
+use mathlib.Core.List.{List, [], _∷_, _++_, append-nil}
+use Prim.Native.Nat.{ℕ, _≤_, _<_}
+use native.Mathlib.Omega.{arith}
+use native.Mathlib.Decide.{ℕ-discrete}
+use lib.Dec.{eqb}
+use Rattle.laws.specs.Upd.{ifb}
+use Rattle.laws.proofs.Upd.{upd-same, upd-other}
+use Rattle.laws.proofs.Fin.{if-cases, true-false}
+use Rattle.seats.specs.Seats.{serves}
+use Rattle.records.specs.declared.Proposal.{Proposal}
+use Rattle.rules.specs.State.{Mode, Fast, Slow, Slot, nothing, keeping, usedFor, numberIn}
+use Rattle.runs.specs.World.{Item, World, WorldEvent, All, none, more, without}
+use Rattle.runs.specs.Begins.{InF, Rising}
+use Rattle.runs.proofs.Grid.{upd2, upd2-cases, upd2-same, upd2-other}
+use Rattle.runs.proofs.Arrays.{Offices, mailTo, renet, propose, receive, conclude, relink, other, Proposes, Agreed, Arrives, FromF, Numbers}
+use Rattle.runs.proofs.Arrays.{SlowTest, not-called, called, not-agreed, agreed, Tests, both}
+use Rattle.runs.proofs.Arrays.{Happens, idles, refuses, loses, drops, leaves, reports, stores, answers}
+use Rattle.runs.proofs.Links.{all-map, all-append, all-head, all-tail, all-without, rising-le, rising-low, rising-high, rising-snoc, rising-tail, rising-head, rising-without}
+
+-- what a proposal p puts on the link to office j: itself or nothing
+abbrev pub itemOf : ℕ → Proposal → Item
+itemOf t p = record { proposal = p; sent = t }
+
+pub mail-cases : (t : ℕ) (p : Proposal) (j : ℕ) (P : List Item → Type 0) → P (itemOf t p ∷ []) → P [] → P (mailTo t p j)
+mail-cases t p j P at not-at =
+    if-cases P (serves (p .members .bits) j && not (eqb j (p .sender))) (itemOf t p ∷ []) [] (λ e. at) (λ e. not-at)
+
+-- the arrays that a part changes: where it acts, and elsewhere
+module _ (g : Offices) where
+  pub relink-cases : (i j : ℕ) (l : List Item) (P : ℕ → ℕ → List Item → Type 0) → P i j l → ((a b : ℕ) → P a b (g .link a b))
+      → (a b : ℕ) → P a b (relink g i j l .link a b)
+  unfolding relink
+  relink-cases i j l P at old a b = upd2-cases P (g .link) i j l a b at (λ n. old a b)
+
+  -- what office a stores for office b, the number that it accepted from it and the link from b to a
+  pub receive-cases : (me i : ℕ) (p : Proposal) (l : List Item) (P : ℕ → ℕ → Slot → ℕ → List Item → Type 0) → P me i (keeping p) (p .number) l
+      → ((a b : ℕ) → P a b (g .stored a b) (g .acc a b) (g .link b a))
+      → (a b : ℕ) → let h = receive g me i p l in P a b (h .stored a b) (h .acc a b) (h .link b a)
+  unfolding receive
+  receive-cases me i p l P at old a b =
+      upd2-cases (λ (a b : ℕ) (s : Slot). P a b s (upd2 (g .acc) me i (p .number) a b) (upd2 (g .link) i me l b a)) (g .stored) me i (keeping p) a b
+      (rw (upd2-same (g .acc) me i (p .number), upd2-same (g .link) i me l) at)
+      (λ n. rw (upd2-other (g .acc) me i (p .number) a b n, upd2-other (g .link) i me l b a (λ e k. n k e)) (old a b))
+
+  -- the own number, the last proposal and the links
+  pub propose-cases : (me : ℕ) (m : Mode) (p : Proposal) (t : ℕ) (P : ℕ → ℕ → Proposal → (ℕ → List Item) → Type 0)
+      → P me (p .number) p (λ j. g .link me j ++ mailTo t p j)
+      → ((a : ℕ) → (a ≡ me → ⊥) → P a (g .num a) (g .made a) (g .link a))
+      → (a : ℕ) → let h = propose g me m p t in P a (h .num a) (h .made a) (h .link a)
+  unfolding propose
+  propose-cases me m p t P at old a = go (ℕ-discrete a me)
+    where
+      go : Dec (a ≡ me) → let h = propose g me m p t in P a (h .num a) (h .made a) (h .link a)
+      go (yes e) = rw e (simp upd-same at)
+      go (no n) = simp upd-other (old a n)
+
+  -- what office a stores for office b and its used number: counted by the view, and elsewhere
+  pub conclude-cases : (me t : ℕ) (P : ℕ → ℕ → Slot → ℕ → Type 0)
+      → ((b : ℕ) → serves (g .net me) b ≡ true → P me b nothing (numberIn (g .stored me b)))
+      → ((a b : ℕ) → P a b (g .stored a b) (g .used a b)) → (a b : ℕ) → P a b (conclude g me t .stored a b) (conclude g me t .used a b)
+  unfolding conclude
+  conclude-cases me t P at old a b = go (ℕ-discrete a me)
+    where
+      test : (s : Bool) → serves (g .net me) b ≡ s → P me b (ifb s nothing (g .stored me b)) (ifb s (numberIn (g .stored me b)) (g .used me b))
+      test true e = at b e
+      test false e = old me b
+
+      go : Dec (a ≡ me) → P a b (conclude g me t .stored a b) (conclude g me t .used a b)
+      go (yes e) = rw (e, upd-same, upd-same) (test (serves (g .net me) b) refl)
+      go (no n) = rw (upd-other, upd-other) (old a b)
+
+-- a proposal made: what another office stores, and the own number rises
+module _ (g : Offices) (me : ℕ) (m : Mode) (p : Proposal) (t : ℕ) where
+  pub said-stored : (P : Slot → Type 0) (a b : ℕ) → (a ≡ b → ⊥) → P (g .stored a b) → P (propose g me m p t .stored a b)
+  unfolding propose
+  said-stored P a b ne q = rw (upd2-other (g .stored) me me (keeping p) a b (λ e k. ne (e ∙ sym k))) q
+
+  pub said-num : {kind : ℕ} → Proposes g me kind p → (a : ℕ) → g .num a ≤ propose g me m p t .num a
+  unfolding propose
+  said-num makes a = let l = makes .above in propose-cases g me m p t (λ a n q r. g .num a ≤ n) (omega arith) (λ a n. omega arith) a
+
+module _ (F : ℕ → Bool) where
+  -- X holds of two offices i and j of F
+  abbrev OfTwo : ℕ → ℕ → Type 0 → Type 0
+  OfTwo i j X = InF F i → InF F j → (i ≡ j → ⊥) → X
+
+  pub numbers-renet : (g : Offices) (me x : ℕ) → Numbers F g → Numbers F (renet g me x)
+  unfolding renet
+  numbers-renet g me x h =
+      record {
+        rows = h .rows;
+        rising = h .rising;
+        told = h .told;
+        kept = h .kept;
+        kept-used = h .kept-used;
+        used-acc = h .used-acc;
+        with-seat = h .with-seat;
+        own-kept = h .own-kept;
+        own-used = h .own-used;
+      }
+
+  pub numbers-relink : (g : Offices) (i j n : ℕ) → Numbers F g → Numbers F (relink g i j (without n (g .link i j)))
+  unfolding relink
+  numbers-relink g i j n h =
+      record {
+        rows =
+            relink-cases g i j (without n (g .link i j)) (λ a b l. FromF F a b → Rising 0 (g .num a) l)
+            (λ f. rising-without n (g .link i j) (h .rows i j f)) (h .rows);
+        rising =
+            relink-cases g i j (without n (g .link i j)) (λ a b l. OfTwo a b (Rising (g .acc b a) (g .num a) l))
+            (λ oi oj ne. rising-without n (g .link i j) (h .rising i j oi oj ne)) (h .rising);
+        told =
+            relink-cases g i j (without n (g .link i j)) (λ a b l. OfTwo a b (All (λ x. usedFor (x .proposal) b ≤ g .num b) l))
+            (λ oi oj ne. all-without n (g .link i j) (h .told i j oi oj ne)) (h .told);
+        kept = h .kept;
+        kept-used = h .kept-used;
+        used-acc = h .used-acc;
+        with-seat = h .with-seat;
+        own-kept = h .own-kept;
+        own-used = h .own-used;
+      }
+
+  module _ (g : Offices) (me i : ℕ) (p : Proposal) (l : List Item) (h : Numbers F g) (arrives : Arrives F g me i p l) where
+    pub numbers-receive : Numbers F (receive g me i p l)
+    unfolding receive
+    numbers-receive =
+        record {
+          rows =
+              λ a b. receive-cases g me i p l (λ b a s n k. FromF F a b → Rising 0 (g .num a) k)
+              (λ f. let y = arrives .oldest (f .0) in
+              rising-low 0 (omega arith) (rising-tail (rw (y .1) at (h .rows i me f))))
+              (λ b a. h .rows a b) b a;
+          rising =
+              λ a b. receive-cases g me i p l (λ b a s n k. OfTwo a b (Rising n (g .num a) k))
+              (λ oi om ne. let y = arrives .oldest oi in rw (y .2) at (rising-tail (rw (y .1) at (h .rising i me oi om ne))))
+              (λ b a. h .rising a b) b a;
+          told =
+              λ a b. receive-cases g me i p l (λ b a s n k. OfTwo a b (All (λ x. usedFor (x .proposal) b ≤ g .num b) k))
+              (λ oi om ne. all-tail (rw (arrives .oldest oi .1) at (h .told i me oi om ne)))
+              (λ b a. h .told a b) b a;
+          kept =
+              λ a b. receive-cases g me i p l
+              (λ b a s n k. OfTwo a b (s .present ≡ true → s .proposal .number ≡ n))
+              (λ oi om ne e. refl)
+              (λ b a. h .kept a b) b a;
+          kept-used =
+              λ a b. receive-cases g me i p l
+              (λ b a s n k. OfTwo a b (s .present ≡ true → usedFor (s .proposal) b ≤ g .num b))
+              (λ oi om ne e. let y = arrives .oldest oi in rw (y .2) at (all-head (rw (y .1) at (h .told i me oi om ne))))
+              (λ b a. h .kept-used a b) b a;
+          used-acc =
+              λ a b. receive-cases g me i p l (λ b a s n k. OfTwo a b (g .used b a ≤ n))
+              (λ oi om ne.
+              let y = arrives .oldest oi in
+              let r = rising-head (rw (y .1) at (h .rising i me oi om ne)) in
+              let u = h .used-acc i me oi om ne in
+              rw (← y .2) (omega arith))
+              (λ b a. h .used-acc a b) b a;
+          with-seat =
+              λ a o. receive-cases g me i p l
+              (λ a o s n k. InF F a → o < 16 → (o ≡ a → ⊥) → s .present ≡ true → serves (s .proposal .members .bits) o ≡ true)
+              (λ om oi ne e. arrives .with-seat)
+              (λ a o. h .with-seat a o) a o;
+          own-kept =
+              λ a. receive-cases g me i p l
+              (λ a b s n k. b ≡ a → InF F a → s .present ≡ true → s .proposal .number ≤ g .num a)
+              (λ e. absurd (arrives .others e))
+              (λ a b e o. rw e (h .own-kept a o)) a a refl;
+          own-used = h .own-used;
+        }
+
+  module _ (g : Offices) (me : ℕ) (m : Mode) (p : Proposal) (t : ℕ) (h : Numbers F g) (om : InF F me) {kind : ℕ} (makes : Proposes g me kind p) where
+    abbrev said : Offices
+    said = propose g me m p t
+
+    -- the numbers that it tells are reached
+    pub said-used : (b : ℕ) → InF F b → (me ≡ b → ⊥) → usedFor p b ≤ said .num b
+    said-used b ob ne =
+        let u = h .used-acc b me ob om (λ e. ne (sym e)) in
+        let r = rising-le (h .rising b me ob om (λ e. ne (sym e))) in
+        let n = said-num g me m p t makes b in
+        rw (makes .with-used b (ob .0))
+        (if-cases (λ x. x ≤ said .num b) (serves (g .net me) b) (g .used me b) 0 (λ e. omega arith) (λ e. omega arith))
+
+    said-told : (a b : ℕ) → InF F a → InF F b → (a ≡ b → ⊥) → All (λ x. usedFor (x .proposal) b ≤ said .num b) (g .link a b)
+    said-told a b oa ob ne = let n = said-num g me m p t makes b in all-map (λ x u. omega arith) (h .told a b oa ob ne)
+
+    -- a row that rises goes on rising
+    said-row : (lo b : ℕ) → Rising lo (g .num me) (g .link me b) → Rising lo (p .number) (g .link me b ++ mailTo t p b)
+    said-row lo b r =
+        let l = makes .above in
+        mail-cases t p b (λ k. Rising lo (p .number) (g .link me b ++ k))
+        (rising-snoc (itemOf t p) (makes .above) r)
+        (rw append-nil (rising-high (p .number) (omega arith) r))
+
+    said-own : (a : ℕ) → InF F a → said .stored a a .present ≡ true → said .stored a a .proposal .number ≤ said .num a
+    unfolding propose
+    said-own a oa = go (ℕ-discrete a me)
+      where
+        go : Dec (a ≡ me) → said .stored a a .present ≡ true → said .stored a a .proposal .number ≤ said .num a
+        go (yes e) = rw (e, upd2-same (g .stored) me me (keeping p), upd-same (g .num) me (p .number)) (λ q. omega arith)
+        go (no n) = rw (upd2-other (g .stored) me me (keeping p) a a (λ e k. n e), upd-other (g .num) me (p .number) a n) (h .own-kept a oa)
+
+    pub numbers-propose : Numbers F said
+    unfolding propose
+    numbers-propose =
+        record {
+          rows = λ a b. propose-cases g me m p t (λ a n q r. FromF F a b → Rising 0 n (r b)) (λ f. said-row 0 b (h .rows me b f)) (λ a n. h .rows a b) a;
+          rising =
+              λ a b. propose-cases g me m p t (λ a n q r. OfTwo a b (Rising (g .acc b a) n (r b)))
+              (λ om ob ne. said-row (g .acc b me) b (h .rising me b om ob ne)) (λ a n. h .rising a b) a;
+          told =
+              λ a b. propose-cases g me m p t (λ a n q r. OfTwo a b (All (λ x. usedFor (x .proposal) b ≤ said .num b) (r b)))
+              (λ om ob ne. all-append (said-told me b om ob ne)
+              (mail-cases t p b (λ k. All (λ x. usedFor (x .proposal) b ≤ said .num b) k) (more (said-used b ob ne) none) none))
+              (λ a n. said-told a b) a;
+          kept =
+              λ a b oa ob ne. said-stored g me m p t (λ s. s .present ≡ true → s .proposal .number ≡ g .acc b a) b a (λ e. ne (sym e)) (h .kept a b oa ob ne);
+          kept-used =
+              λ a b oa ob ne. said-stored g me m p t (λ s. s .present ≡ true → usedFor (s .proposal) b ≤ said .num b) b a (λ e. ne (sym e))
+              (λ e. let u = h .kept-used a b oa ob ne e in let n = said-num g me m p t makes b in omega arith);
+          used-acc = h .used-acc;
+          with-seat =
+              λ a o oa lt ne. said-stored g me m p t (λ s. s .present ≡ true → serves (s .proposal .members .bits) o ≡ true) a o (λ e. ne (sym e))
+              (h .with-seat a o oa lt ne);
+          own-kept = said-own;
+          own-used = λ a oa. let u = h .own-used a oa in let n = said-num g me m p t makes a in omega arith;
+        }
+
+  module _ (g : Offices) (me t : ℕ) (h : Numbers F g) (all-agree : Agreed g me) where
+    -- what the view counts is there
+    agreed-number : (a : ℕ) → a < 16 → serves (g .net me) a ≡ true → numberIn (g .stored me a) ≡ other g me a .number
+    agreed-number a lt e = rw (all-agree .every a lt e .0 .0)
+
+    pub numbers-conclude : Numbers F (conclude g me t)
+    unfolding conclude
+    numbers-conclude =
+        record {
+          rows = h .rows;
+          rising = h .rising;
+          told = h .told;
+          kept =
+              λ a b. conclude-cases g me t (λ b a s u. OfTwo a b (s .present ≡ true → s .proposal .number ≡ g .acc b a))
+              (λ a v oa ob ne e. absurd (true-false false e refl))
+              (λ b a. h .kept a b) b a;
+          kept-used =
+              λ a b. conclude-cases g me t (λ b a s u. OfTwo a b (s .present ≡ true → usedFor (s .proposal) b ≤ g .num b))
+              (λ a v oa ob ne e. absurd (true-false false e refl))
+              (λ b a. h .kept-used a b) b a;
+          used-acc =
+              λ a b. conclude-cases g me t (λ b a s u. OfTwo a b (u ≤ g .acc b a))
+              (λ a v oa ob ne.
+              let n = agreed-number a (oa .0) v in
+              let k = h .kept a me oa ob ne (all-agree .every a (oa .0) v .0 .0) in
+              omega arith)
+              (λ b a. h .used-acc a b) b a;
+          with-seat =
+              λ a o. conclude-cases g me t
+              (λ a o s u. InF F a → o < 16 → (o ≡ a → ⊥) → s .present ≡ true → serves (s .proposal .members .bits) o ≡ true)
+              (λ o v oa lt ne e. absurd (true-false false e refl))
+              (λ a o. h .with-seat a o) a o;
+          own-kept =
+              λ a. conclude-cases g me t (λ a b s u. b ≡ a → InF F a → s .present ≡ true → s .proposal .number ≤ g .num a)
+              (λ b v e o q. absurd (true-false false q refl))
+              (λ a b e o. rw e (h .own-kept a o)) a a refl;
+          own-used =
+              λ a. conclude-cases g me t (λ a b s u. b ≡ a → InF F a → u ≤ g .num a)
+              (λ b v e o.
+              let w : serves (g .net me) me ≡ true = rw e at v in
+              let n = agreed-number me (o .0) w in
+              let k = h .own-kept me o (all-agree .every me (o .0) w .0 .0) in
+              rw e (omega arith))
+              (λ a b e o. rw e (h .own-used a o)) a a refl;
+        }
+
+  pub numbers-slow-test : {t me : ℕ} {g h : Offices} → InF F me → Numbers F g → SlowTest t me g h → Numbers F h
+  numbers-slow-test o n (not-called s) = n
+  numbers-slow-test {t} {me} {g} o n (called p s k c) = numbers-propose g me Slow p t n o k
+
+  pub numbers-tests : {t me : ℕ} {g h : Offices} → InF F me → Numbers F g → Tests t me g h → Numbers F h
+  numbers-tests o n (both s (not-agreed _)) = numbers-slow-test o n s
+  numbers-tests {t} {me} o n (both {h = k} s (agreed a)) = numbers-conclude k me t (numbers-slow-test o n s) a
+
+  -- every event keeps them
+  pub numbers-acts : {w : World} {e : WorldEvent} {g h : Offices} → Numbers F g → Happens F w e g h → Numbers F h
+  numbers-acts n (idles a) = n
+  numbers-acts n (refuses o b) = n
+  numbers-acts {g = g} n (loses {i = i} {j = j} {place = place} f) = numbers-relink g i j place n
+  numbers-acts {g = g} n (drops {i = i} {j = j} f b) = numbers-relink g i j 0 n
+  numbers-acts {g = g} n (leaves {me = me} x o b) = numbers-renet g me x n
+  numbers-acts {w} {g = g} n (reports {me = me} x p o k s) =
+      numbers-tests o (numbers-propose (renet g me x) me Fast p (w .clock) (numbers-renet g me x n) o k) s
+  numbers-acts {g = g} n (stores {i = i} {me = me} p l a b) = numbers-receive g me i p l n a
+  numbers-acts {g = g} n (answers {i = i} {me = me} p l a b s) = numbers-tests (a .at-office) (numbers-receive g me i p l n a) s

@@ -1,0 +1,268 @@
+-- The proposals that an event makes, in every state of every office: who they name, what they tell, that they are well formed.
+use mathlib.Core.Path.{_≡_, refl, _∙_}
+use mathlib.Core.Bool.{false}
+use mathlib.Core.Logic.{_⊎_, inl, inr}
+use mathlib.Core.List.{List, [], _∷_, _++_}
+use Prim.Native.Nat.{ℕ, _≤_, _<_}
+use native.Mathlib.Omega.{arith}
+use lib.ListN.{length}
+use Rattle.laws.proofs.Fin.{if-cases, true-false}
+use Rattle.laws.proofs.Tab.{length-tab}
+use Rattle.laws.specs.Upd.{ifb}
+use Rattle.seats.specs.Seats.{serves}
+use Rattle.records.specs.declared.Report.{Report}
+use Rattle.records.specs.declared.Proposal.{Proposal}
+use Rattle.records.specs.declared.Notice.{Notice}
+use Rattle.records.specs.declared.View.{View}
+use Rattle.rules.specs.State.{Mode, None, Fast, Slow, State, fast, slow, kindOf, usedAt, usedFor}
+use Rattle.rules.specs.Rules.{Written, notice, proposal, view, Outcome, nothingWritten, andThen, hasRecipient, netAfter, seated, ownProposal, proposed, opens, slowNumber, nextNumber, proposesSlow, proposesFast, received, reportRule, proposalRule}
+use Rattle.rules.specs.Refusals.{Event, aReport, aProposal, eventOf, stepOf}
+use Rattle.rules.proofs.Steps.{Refused, Accepts, step-accepts, step-cases}
+use Rattle.rules.proofs.Parts.{withNet-reads, opened-reads, proposed-reads, received-reads, concluded-reads, made-is, made-used}
+use Rattle.rules.proofs.Tests.{slow-above, next-above}
+use Rattle.rules.proofs.Walk.{arrived, concludes, ProposesFast, ProposesSlow, after-opening, in-round, Walk, Tested, staged-report, staged-proposal, walk-report, walk-proposal, walk-event}
+
+-- P holds of each proposal written
+pub data EachProposal (P : Proposal → Type 0) : List Written → Type 0 where
+  no-more : EachProposal P []
+  a-notice : {n : Notice} {ws : List Written} → EachProposal P ws → EachProposal P (notice n ∷ ws)
+  a-proposal : {p : Proposal} {ws : List Written} → P p → EachProposal P ws → EachProposal P (proposal p ∷ ws)
+  a-view : {v : View} {ws : List Written} → EachProposal P ws → EachProposal P (view v ∷ ws)
+
+pub each-map : {P Q : Proposal → Type 0} {ws : List Written} → ((p : Proposal) → P p → Q p) → EachProposal P ws → EachProposal Q ws
+each-map f no-more = no-more
+each-map f (a-notice e) = a-notice (each-map f e)
+each-map f (a-proposal p e) = a-proposal (f _ p) (each-map f e)
+each-map f (a-view e) = a-view (each-map f e)
+
+pub each-append : {P : Proposal → Type 0} {a b : List Written} → EachProposal P a → EachProposal P b → EachProposal P (a ++ b)
+each-append no-more f = f
+each-append (a-notice e) f = a-notice (each-append e f)
+each-append (a-proposal p e) f = a-proposal p (each-append e f)
+each-append (a-view e) f = a-view (each-append e f)
+
+-- a round is open only after a start number was given out
+abbrev pub Begun : State → Type 0
+Begun s = (s .mode ≡ None → ⊥) → 1 ≤ s .start
+
+-- a round is fast or slow
+pub kinds : (m : Mode) → (m ≡ None → ⊥) → (kindOf m ≡ fast) ⊎ (kindOf m ≡ slow)
+kinds None e = absurd (e refl)
+kinds Fast e = inl refl
+kinds Slow e = inr refl
+
+-- the proposal p is made between the states s and u of one office
+pub record MadeBetween (s u : State) (p : Proposal) : Type 0 where
+  pub sender : p .sender ≡ s .own
+  pub kind : (p .kind ≡ fast) ⊎ (p .kind ≡ slow)
+  pub members : p .members .bits ≡ s .net .bits
+  pub start : (Begun s → 1 ≤ p .start) × (p .start ≤ u .start)
+  pub number : (s .number < p .number) × (p .number ≤ u .number)
+  pub used : (o : ℕ) → o < 16 → usedFor p o ≡ ifb (serves (s .net .bits) o) (usedAt s o) 0
+  pub sixteen : length (p .used) ≡ 16
+
+-- what an outcome does to the own parts of a state, and the proposals that it makes
+pub record Makes (s : State) (o : Outcome) : Type 0 where
+  pub own : o .state .own ≡ s .own
+  pub net : o .state .net .bits ≡ s .net .bits
+  pub number : s .number ≤ o .state .number
+  pub start : s .start ≤ o .state .start
+  pub begun : Begun s → Begun (o .state)
+  pub sends : EachProposal (MadeBetween s (o .state)) (o .written)
+
+-- before the view the used numbers stay
+record MakesFirst (s : State) (o : Outcome) : Type 0 where
+  makes : Makes s o
+  same-used : (o' : ℕ) → o' < 16 → usedAt (o .state) o' ≡ usedAt s o'
+
+makes-then : (s : State) (o : Outcome) (f : State → Outcome) → MakesFirst s o → Makes (o .state) (f (o .state)) → Makes s (andThen o f)
+unfolding andThen
+makes-then s o f q b =
+    let a = q .makes in
+    let n = a .number in
+    let m = b .number in
+    let x = a .start in
+    let y = b .start in
+    record {
+      own = b .own ∙ a .own;
+      net = b .net ∙ a .net;
+      number = omega arith;
+      start = omega arith;
+      begun = λ h. b .begun (a .begun h);
+      sends = each-append (each-map earlier (a .sends)) (each-map later (b .sends));
+    }
+  where
+    earlier : (p : Proposal) → MadeBetween s (o .state) p → MadeBetween s (f (o .state) .state) p
+    earlier p m =
+        let x = b .start in
+        let y = b .number in
+        let v = m .start .1 in
+        let w = m .number in
+        record {
+          sender = m .sender;
+          kind = m .kind;
+          members = m .members;
+          start = (m .start .0, omega arith);
+          number = (w .0, omega arith);
+          used = m .used;
+          sixteen = m .sixteen;
+        }
+
+    later : (p : Proposal) → MadeBetween (o .state) (f (o .state) .state) p → MadeBetween s (f (o .state) .state) p
+    later p m =
+        let a = q .makes in
+        let x = m .number in
+        let y = a .number in
+        record {
+          sender = m .sender ∙ a .own;
+          kind = m .kind;
+          members = m .members ∙ a .net;
+          start = (λ h. m .start .0 (a .begun h), m .start .1);
+          number = (omega arith, m .number .1);
+          used = λ k lt. m .used k lt ∙ rw (a .net, q .same-used k lt);
+          sixteen = m .sixteen;
+        }
+
+first-then : (s : State) (o : Outcome) (f : State → Outcome) → MakesFirst s o → MakesFirst (o .state) (f (o .state)) → MakesFirst s (andThen o f)
+unfolding andThen
+first-then s o f a b = record { makes = makes-then s o f a (b .makes); same-used = λ k lt. b .same-used k lt ∙ a .same-used k lt }
+
+module _ (s : State) where
+  makes-none : MakesFirst s (nothingWritten s)
+  makes-none = record {
+    makes = record { own = refl; net = refl; number = omega arith; start = omega arith; begun = λ b. b; sends = no-more };
+    same-used = λ o lt. refl;
+  }
+
+  made-length : (m : Mode) (n : ℕ) → length (ownProposal m n s .used) ≡ 16
+  unfolding ownProposal
+  made-length m n = length-tab 16 _
+
+  -- where a start number has been given out
+  module _ (m : Mode) (n : ℕ) (busy : m ≡ None → ⊥) (lt : s .number < n) (given : Begun s → 1 ≤ s .start) where
+    made-between : MadeBetween s (proposed m n s) (ownProposal m n s)
+    made-between =
+        let w = made-is s m n in
+        let r = proposed-reads s m n in
+        let a = w .3 in
+        let c = w .4 in
+        let d = r .start-is in
+        let e = r .number-is in
+        record {
+          sender = w .0;
+          kind = rw (w .1) (kinds m busy);
+          members = w .2;
+          start = (λ h. let g = given h in omega arith, omega arith);
+          number = (omega arith, omega arith);
+          used = made-used s m n;
+          sixteen = made-length m n;
+        }
+
+    makes-propose : (ws : List Written) → EachProposal (MadeBetween s (proposed m n s)) ws → MakesFirst s (record { state = proposed m n s; written = ws })
+    makes-propose ws e =
+        let r = proposed-reads s m n in
+        let a = r .start-is in
+        let b = r .number-is in
+        record {
+          makes = record { own = r .own-is; net = r .net-is; number = omega arith; start = omega arith; begun = λ h q. let g = given h in omega arith; sends = e };
+          same-used = r .used-is;
+        }
+
+  makes-open : MakesFirst s (opens s)
+  unfolding opens
+  makes-open =
+      let r = opened-reads s in
+      let a = r .start-is in
+      let b = r .number-is in
+      record {
+        makes = record { own = r .own-is; net = r .net-is; number = omega arith; start = omega arith; begun = λ h q. omega arith; sends = a-notice no-more };
+        same-used = r .used-is;
+      }
+
+  makes-fast : ProposesFast s → MakesFirst s (proposesFast s)
+  unfolding proposesFast
+  makes-fast q =
+      let given : Begun s → 1 ≤ s .start = λ h. rw (q .is) (let a = opened-reads (q .before) .start-is in omega arith) in
+      let busy : Fast ≡ None → ⊥ = λ e. let z : _≡_ {A = ℕ} 0 1 = cc in omega arith in
+      makes-propose Fast (nextNumber s) busy (next-above s) given _
+      (if-cases (EachProposal (MadeBetween s (proposed Fast (nextNumber s) s))) (hasRecipient (ownProposal Fast (nextNumber s) s)) _ _
+      (λ e. a-proposal (made-between Fast (nextNumber s) busy (next-above s) given) no-more)
+      (λ e. no-more))
+
+  makes-slow : ProposesSlow s → MakesFirst s (proposesSlow s)
+  unfolding proposesSlow
+  makes-slow q =
+      let busy : Slow ≡ None → ⊥ = λ e. let z : _≡_ {A = ℕ} 0 1 = cc in omega arith in
+      makes-propose Slow (slowNumber s) busy (slow-above s) (given q) _
+      (a-proposal (made-between Slow (slowNumber s) busy (slow-above s) (given q)) no-more)
+    where
+      given : ProposesSlow s → Begun s → 1 ≤ s .start
+      given (after-opening u n c e) h = rw e (let a = opened-reads u .start-is in omega arith)
+      given (in-round n c) h = h n
+
+  makes-view : Makes s (concludes s)
+  makes-view =
+      let r = concluded-reads s in
+      let a = r .start-is in
+      let c = r .number-is in
+      record {
+        own = r .own-is;
+        net = r .net-is;
+        number = omega arith;
+        start = omega arith;
+        begun = λ h q. absurd (q (r .mode-is));
+        sends = a-view no-more;
+      }
+
+making : Walk MakesFirst Makes
+making = record {
+  idle = λ s i. makes-none s;
+  opening = λ s i. makes-open s;
+  fastly = makes-fast;
+  slowly = makes-slow;
+  concluding = λ s e. makes-view s;
+  chain = first-then;
+  whole = λ s o h. h .makes;
+  finish = makes-then;
+}
+
+-- what an event makes, from the state that its first change leaves
+pub makes-report : (s : State) (r : Report) → Makes (arrived s (aReport r)) (reportRule s r)
+makes-report = walk-report making
+
+pub makes-proposal : (s : State) (p : Proposal) → Makes (received s p) (proposalRule s p)
+makes-proposal = walk-proposal making
+
+-- where nothing more is done: a report with no seat of its own, a proposal with other members than the net view
+nowhere : {P : Outcome → Type 0} → Tested (λ o. ⊥) (λ o. ⊥) P
+nowhere = record { called = λ o a. absurd a; uncalled = λ o a. absurd a; agrees = λ o a. absurd a; unagreed = λ o a. absurd a }
+
+pub unseated-report : (s : State) (r : Report) → seated (arrived s (aReport r)) ≡ false → reportRule s r ≡ nothingWritten (arrived s (aReport r))
+unseated-report s r e = staged-report {P = λ o. o ≡ nothingWritten (arrived s (aReport r))} nowhere s r (λ k. refl) (λ k. absurd (true-false _ k e))
+
+pub other-members : (s : State) (p : Proposal) → (p .members .bits ≡ s .net .bits → ⊥) → proposalRule s p ≡ nothingWritten (received s p)
+other-members s p n = staged-proposal {P = λ o. o ≡ nothingWritten (received s p)} nowhere s p (λ k. refl) (λ e. absurd (n e))
+
+-- the net view after a report is that of step 1, and after a proposal stays
+pub report-net : (s : State) (r : Report) → reportRule s r .state .net .bits ≡ netAfter (s .net .bits) r
+report-net s r = makes-report s r .net ∙ withNet-reads s (netAfter (s .net .bits) r) .net-is
+
+pub proposal-net : (s : State) (p : Proposal) → proposalRule s p .state .net .bits ≡ s .net .bits
+proposal-net s p = makes-proposal s p .net ∙ received-reads s p .net-is
+
+-- an answer of any office keeps the own office, and the proposals name it
+pub step-names : (s : State) (b : List ℕ) (room : ℕ)
+    → (stepOf s b room .state .own ≡ s .own) × EachProposal (λ p. p .sender ≡ s .own) (stepOf s b room .written)
+step-names s b room = go (step-cases s b room)
+  where
+    arrived-own : (e : Event) → arrived s e .own ≡ s .own
+    arrived-own (aReport r) = withNet-reads s (netAfter (s .net .bits) r) .own-is
+    arrived-own (aProposal p) = received-reads s p .own-is
+
+    go : Refused s (stepOf s b room) ⊎ Accepts s b room
+        → (stepOf s b room .state .own ≡ s .own) × EachProposal (λ p. p .sender ≡ s .own) (stepOf s b room .written)
+    go (inl r) = rw (r .is) (refl, no-more)
+    go (inr a) =
+        let e = eventOf b in
+        let m = walk-event making s e in
+        rw (step-accepts s b room a) (m .own ∙ arrived-own e, each-map (λ p k. k .sender ∙ arrived-own e) (m .sends))

@@ -1,0 +1,175 @@
+-- A report at an office of F is an event of the arrays.
+use mathlib.Core.Path.{_≡_, refl, sym, ap, subst, _∙_}
+use mathlib.Core.Bool.{Bool, true, false}
+use mathlib.Core.Logic.{_⊎_, inl, inr}
+use mathlib.Core.List.{List}
+use Prim.Native.Nat.{ℕ, _^_, _≤_, _<_}
+use native.Mathlib.Omega.{arith}
+use Rattle.laws.proofs.Fin.{true-false}
+use Rattle.laws.proofs.Upd.{upd-other}
+use Rattle.seats.specs.Seats.{serves}
+use Rattle.seats.proofs.Laws.{union-lt, without-lt}
+use Rattle.records.specs.Layout.{encodeReport}
+use Rattle.records.specs.Fits.{FitsReport}
+use Rattle.records.proofs.RoundTrip.{report-checked}
+use Rattle.records.specs.declared.Report.{Report}
+use Rattle.rules.specs.State.{State, usedAt}
+use Rattle.rules.specs.Rules.{nothingWritten, netAfter, withNet, seated, receives, reportRule}
+use Rattle.rules.specs.Refusals.{limit, wellFormed, Event, aReport, ruleOf, Result, stepOf}
+use Rattle.rules.proofs.Steps.{accepted, Refused, Accepts, well-facts, step-accepts}
+use Rattle.rules.proofs.Parts.{withNet-reads}
+use Rattle.rules.proofs.Encoded.{report-event}
+use Rattle.rules.proofs.Walk.{staged-report}
+use Rattle.runs.specs.World.{World, report, answered, onReport, Among}
+use Rattle.runs.specs.Begins.{InF}
+use Rattle.runs.proofs.Arrays.{Offices, Barred, renet, Numbers, Happens, refuses, leaves, reports}
+use Rattle.runs.proofs.StateArrays.{Sim, sim-renet}
+use Rattle.runs.proofs.RulesArrays.{Moved, moved-none, moving, fast-moves}
+use Rattle.runs.proofs.Proposals.{EachProposal, each-map, no-more, Begun, Makes, makes-report, unseated-report}
+use Rattle.runs.proofs.Accepting.{accepted-or-barred}
+use Rattle.runs.proofs.Valid.{Valid, made-below, made-valid}
+use Rattle.runs.proofs.WorldArrays.{Good, Seen, SeenAll, Answer, Kept, seen-but, seen-moved, seen-turned, below-sixteen}
+
+module _ (F : ℕ → Bool) where
+  -- a report at an office of F
+  module _ (w : World) (g : Offices) (me : ℕ) (rep : Report) (room : ℕ) (seen : SeenAll F w g) (numbers : Numbers F g) (q : InF F me)
+      (among : Among (report me rep room)) where
+    abbrev mine : State
+    mine = w .state me
+
+    sim : Sim mine g me
+    sim = seen .sim me q (below-sixteen F (q .0))
+
+    good : Good mine
+    good = seen .good me q (below-sixteen F (q .0))
+
+    fits : FitsReport rep
+    fits = record { joining = among .1; leaving = among .2 }
+
+    abbrev bytes : List ℕ
+    bytes = encodeReport rep
+
+    abbrev Acted : Result → Type 0
+    Acted r = (h : Offices) × Happens F w (report me rep room) g h × SeenAll F (answered w me r) h
+
+    -- refused: nothing happens
+    refused-acts : Refused mine (stepOf mine bytes room) → Barred (stepOf mine bytes room) → Acted (onReport w me rep room)
+    unfolding onReport answered
+    refused-acts r b = (
+      g,
+      refuses q b,
+      subst (λ (z : Result). SeenAll F (answered w me z) g) (sym (r .is))
+          (seen-moved F w g g me (nothingWritten mine) (seen-but F w g me seen) ans q (moved-none (w .clock) me g mine sim)),
+    )
+      where
+        ans : Answer F me (nothingWritten mine)
+        ans = record { is-good = good; own = sim .own; sends = no-more; below = no-more; names = no-more }
+
+    abbrev made-net : ℕ
+    made-net = netAfter (mine .net .bits) rep
+
+    net-below : made-net < 2 ^ 64
+    unfolding netAfter
+    net-below = without-lt _ _ (union-lt _ _ (good .net) (fits .joining))
+
+    renetted-kept : (a : ℕ) → (a ≡ me → ⊥) → Kept F g (renet g me made-net) a
+    unfolding renet
+    renetted-kept a n = record {
+      num = refl;
+      mode = refl;
+      net = upd-other (g .net) me made-net a n;
+      stored = refl;
+      acc = refl;
+      used = refl;
+    }
+
+    seen-renet : Seen F me w (renet g me made-net)
+    unfolding renet
+    seen-renet = seen-turned F w g (renet g me made-net) me seen renetted-kept refl refl
+
+    abbrev turned : State
+    turned = withNet mine made-net
+
+    turned-own : turned .own ≡ me
+    turned-own = withNet-reads mine made-net .own-is ∙ sim .own
+
+    turned-net : turned .net .bits ≡ made-net
+    turned-net = withNet-reads mine made-net .net-is
+
+    turned-begun : Begun turned
+    turned-begun n = let r = withNet-reads mine made-net in rw (r .start-is) (good .begun (λ k. n (r .mode-is ∙ k)))
+
+    sim-turned : Sim turned (renet g me made-net) me
+    sim-turned = sim-renet mine g me sim made-net
+
+    within : (k : ℕ) → k < 16 → usedAt turned k ≤ limit
+    within k lt = let a = withNet-reads mine made-net .used-is k lt in let b = well-facts mine (good .passes) .used k lt in omega arith
+
+    behind : usedAt turned me ≤ turned .number
+    behind =
+        let a = withNet-reads mine made-net .used-is me (q .0) in
+        let b = withNet-reads mine made-net .number-is in
+        let c = sim .used me (q .0) in
+        let d = sim .num in
+        let e = numbers .own-used me q in
+        omega arith
+
+    module _ (accepts : Accepts mine bytes room) where
+      answer : onReport w me rep room ≡ accepted (reportRule mine rep)
+      unfolding onReport
+      answer = step-accepts mine bytes room accepts ∙ ap (λ (e : Event). accepted (ruleOf mine e)) (report-event rep fits)
+
+      passes : wellFormed (reportRule mine rep .state) ≡ true
+      passes = rw (report-event rep fits) at (accepts .acts .within)
+
+      -- the office's answer, where the arrays become k
+      ends : (k : Offices) → Moved (w .clock) me (renet g me made-net) (reportRule mine rep) k
+          → EachProposal (λ p. (j : ℕ) → receives p j ≡ true → Valid me j p) (reportRule mine rep .written)
+          → SeenAll F (answered w me (accepted (reportRule mine rep))) k
+      ends k moved valid = seen-moved F w (renet g me made-net) k me (reportRule mine rep) seen-renet ans q moved
+        where
+          makes : Makes turned (reportRule mine rep)
+          makes = makes-report mine rep
+
+          ans : Answer F me (reportRule mine rep)
+          ans = record {
+            is-good = record { passes = passes; net = rw (makes .net, turned-net) net-below; begun = makes .begun turned-begun };
+            own = makes .own ∙ turned-own;
+            sends = valid;
+            below = each-map (made-below turned (reportRule mine rep .state) me (q .0) behind) (makes .sends);
+            names = each-map (λ p m. m .sender ∙ turned-own) (makes .sends);
+          }
+
+      -- no seat of its own: nothing more happens
+      unseated : seated turned ≡ false → Acted (accepted (reportRule mine rep))
+      unfolding seated
+      unseated e =
+          let r = unseated-report mine rep e in (
+            renet g me made-net,
+            leaves made-net q (ap (λ (x : ℕ). serves x me) (sym turned-net) ∙ ap (serves (turned .net .bits)) (sym turned-own) ∙ e),
+            ends (renet g me made-net) (rw r (moved-none (w .clock) me (renet g me made-net) turned sim-turned)) (rw r no-more),
+          )
+
+      -- a fast proposal and the tests
+      opened-up : seated turned ≡ true → Acted (accepted (reportRule mine rep))
+      unfolding seated
+      opened-up e =
+          let f = fast-moves (w .clock) me turned (renet g me made-net) sim-turned in
+          let t = staged-report (moving (w .clock) me (renet g me made-net) _) mine rep (λ n. absurd (true-false _ e n)) (λ _. f .1) in
+          let seat : serves (turned .net .bits) me ≡ true = ap (serves (turned .net .bits)) (sym turned-own) ∙ e in
+          let valid = made-valid turned (reportRule mine rep .state) me turned-own (q .0) (rw turned-net net-below) seat within (well-facts _ passes) turned-begun in
+          (t .0, reports made-net _ q (f .0) (t .1), ends (t .0) (t .2) (each-map valid (makes-report mine rep .sends)))
+
+      accepted-acts : Acted (onReport w me rep room)
+      accepted-acts = rw answer (go (seated turned) refl)
+        where
+          go : (t : Bool) → seated turned ≡ t → Acted (accepted (reportRule mine rep))
+          go true e = opened-up e
+          go false e = unseated e
+
+    pub report-acts : Acted (onReport w me rep room)
+    report-acts = go (accepted-or-barred mine bytes room (aReport rep) (good .passes) (report-checked rep) (report-event rep fits) refl)
+      where
+        go : Accepts mine bytes room ⊎ (Refused mine (stepOf mine bytes room) × Barred (stepOf mine bytes room)) → Acted (onReport w me rep room)
+        go (inl a) = accepted-acts a
+        go (inr r) = refused-acts (r .0) (r .1)

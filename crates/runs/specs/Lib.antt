@@ -1,0 +1,3 @@
+pub mod Office
+pub mod World
+pub mod Begins

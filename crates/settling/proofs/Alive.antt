@@ -1,0 +1,164 @@
+-- The settling rule at work: scenarios that fail none of its hypotheses (so that `meets-all` gives them, as it does for the first), small enough
+-- to follow by hand. At the end nothing is on its way between the offices, and their latest views are one. Seat 0 is of office 0, seat 4 of
+-- office 1, seat 8 of office 2, seat 12 of office 3. {0, 4} is 17, {8} is 256, {0, 4, 8} is 273, {12} is 4096, {0, 12} is 4097.
+use mathlib.Core.Path.{_≡_, refl, ap}
+use mathlib.Core.List.{[], _∷_}
+use Rattle.rules.specs.State.{zeros}
+use Rattle.runs.specs.World.{report, delivery, loss}
+use Rattle.settling.specs.Statement.{Assumed, AllReported}
+use Rattle.settling.specs.Scenarios.{Scenario, stateIn, linkIn, lastTo}
+use Rattle.settling.proofs.Scenarios.{meets-all, reported}
+use Rattle.settling.specs.Scenarios.{Summary, summary, no-view, sent-at, join, leave, hand, inNone, three}
+
+-- 1. Both offices are told of {0, 4}: each proposes with start 1 and number 1. Each takes the other's proposal and sends view 2.
+abbrev plain : Scenario
+plain = record { set = 17; begun = []; posted = []; events = join 0 17 ∷ join 1 17 ∷ hand 0 1 ∷ hand 1 0 ∷ [] }
+
+plain-summary :
+    summary plain
+    ≡ record {
+      fails = [];
+      point = 2;
+      on-way = 2;
+      offices = 2;
+      bound = 10;
+      delivered = 2;
+      answers = 0 ∷ 0 ∷ 0 ∷ 0 ∷ [];
+      left = 0;
+      views = sent-at 3 2 17 (three 1 1 0) ∷ sent-at 2 2 17 (three 1 1 0) ∷ no-view ∷ [];
+    }
+unfolding summary
+plain-summary = refl
+
+-- So every hypothesis of the rule holds of it, and the last report has been acted on at point 2.
+pub plain-assumed : Assumed 17 (stateIn []) (linkIn []) (plain .events) (lastTo (plain .events))
+unfolding summary
+plain-assumed = meets-all plain (ap (λ (s : Summary). s .fails) plain-summary)
+
+pub plain-reported : AllReported 17 (stateIn []) (linkIn []) (plain .events) (lastTo (plain .events)) 2
+unfolding summary
+plain-reported = reported plain 1 refl
+
+-- 2. After 1, office 0 alone gets an empty report (event 4): notice 2, fast proposal number 2 with used 1, 1. Office 1 is in mode
+-- none: it opens with start 2 and makes slow proposal 3. Office 0 joins number 3 and sends view 3, then office 1 does.
+abbrev again : Scenario
+again =
+    record {
+      set = 17;
+      begun = [];
+      posted = [];
+      events = join 0 17 ∷ join 1 17 ∷ hand 0 1 ∷ hand 1 0 ∷ join 0 0 ∷ hand 0 1 ∷ hand 1 0 ∷ hand 0 1 ∷ [];
+    }
+
+again-summary :
+    summary again
+    ≡ record {
+      fails = [];
+      point = 5;
+      on-way = 1;
+      offices = 2;
+      bound = 7;
+      delivered = 3;
+      answers = 0 ∷ 0 ∷ 0 ∷ 0 ∷ 0 ∷ 0 ∷ 0 ∷ 0 ∷ [];
+      left = 0;
+      views = sent-at 6 3 17 (three 2 2 0) ∷ sent-at 7 3 17 (three 2 2 0) ∷ no-view ∷ [];
+    }
+unfolding summary
+again-summary = refl
+
+-- 3. Office 0 has sent view 2, but its proposal to office 1 is lost; only then comes its last report (event 4). The new proposal has
+-- used number 1 for office 1, which is still in mode fast with own number 1: slow agreement is called for, number 3 with start 1.
+abbrev lossy : Scenario
+lossy =
+    record {
+      set = 17;
+      begun = [];
+      posted = [];
+      events = join 0 17 ∷ join 1 17 ∷ hand 1 0 ∷ loss 0 1 0 ∷ join 0 0 ∷ hand 0 1 ∷ hand 1 0 ∷ hand 0 1 ∷ [];
+    }
+
+lossy-summary :
+    summary lossy
+    ≡ record {
+      fails = [];
+      point = 5;
+      on-way = 1;
+      offices = 2;
+      bound = 7;
+      delivered = 3;
+      answers = 0 ∷ 0 ∷ 0 ∷ 0 ∷ 0 ∷ 0 ∷ 0 ∷ [];
+      left = 0;
+      views = sent-at 6 3 17 (three 2 1 0) ∷ sent-at 7 3 17 (three 2 1 0) ∷ no-view ∷ [];
+    }
+unfolding summary
+lossy-summary = refl
+
+-- 4. Refused on the way. Office 3 is no office of {0, 4} and starts with number 5 and used number 9 for office 0; a proposal of kind 3
+-- is on its link to office 0. Office 0 first proposes {0, 12}: office 3 has room for 181 bytes and answers 3. Office 0 answers 7 to the
+-- proposal of kind 3, and 12 to the one that office 3 makes. Then {12} leaves, {4} joins, and offices 0 and 1 agree on view 3.
+abbrev refusals : Scenario
+refusals =
+    record {
+      set = 17;
+      begun = record { office = 3; state = inNone 3 4096 0 5 zeros (three 9 0 0) } ∷ [];
+      posted =
+          record {
+            to = 0;
+            proposal = record { sender = 3; kind = 3; members = record { bits = 4097 }; start = 1; number = 1; used = three 0 0 0 };
+          } ∷ [];
+      events =
+          join 0 4097 ∷ delivery 0 3 181 ∷ hand 3 0 ∷ join 3 1 ∷ hand 3 0
+          ∷ report 0 (record { joining = record { bits = 16 }; leaving = record { bits = 4096 } }) 182 ∷ join 1 17
+          ∷ hand 1 0 ∷ hand 0 1 ∷ [];
+    }
+
+refusals-summary :
+    summary refusals
+    ≡ record {
+      fails = [];
+      point = 7;
+      on-way = 2;
+      offices = 2;
+      bound = 10;
+      delivered = 2;
+      answers = 0 ∷ 3 ∷ 7 ∷ 0 ∷ 12 ∷ 0 ∷ 0 ∷ 0 ∷ 0 ∷ [];
+      left = 0;
+      views = sent-at 7 3 17 (three 2 1 0) ∷ sent-at 8 3 17 (three 2 1 0) ∷ no-view ∷ [];
+    }
+unfolding summary
+refusals-summary = refl
+
+-- 5. Moshe's example 5.2. Offices 0 and 1 have agreed on {0, 4}, office 2 on {8}; then all three are told of {0, 4, 8} and propose with
+-- start 2 and number 2. Office 0 hears both others and sends view 3 (event 9). It is told that seat 8 left and that it joined again: its
+-- last proposal has number 4, start 4, used 2, 2, 2. Offices 1 and 2 still wait for each other. The used number 2 is their own: each
+-- makes slow proposal 5, office 0 joins, and all send view 5.
+abbrev overtaken : Scenario
+overtaken =
+    record {
+      set = 273;
+      begun = [];
+      posted = [];
+      events =
+          join 0 17 ∷ join 1 17 ∷ hand 0 1 ∷ hand 1 0 ∷ join 2 256
+          ∷ join 0 256 ∷ join 1 256 ∷ join 2 17 ∷ hand 1 0 ∷ hand 2 0
+          ∷ leave 0 256 ∷ join 0 256
+          ∷ hand 0 1 ∷ hand 0 1 ∷ hand 0 1 ∷ hand 0 2 ∷ hand 0 2 ∷ hand 1 0 ∷ hand 2 0
+          ∷ hand 1 2 ∷ hand 1 2 ∷ hand 2 1 ∷ hand 2 1 ∷ hand 0 1 ∷ hand 0 2 ∷ [];
+    }
+
+overtaken-summary :
+    summary overtaken
+    ≡ record {
+      fails = [];
+      point = 12;
+      on-way = 7;
+      offices = 3;
+      bound = 67;
+      delivered = 13;
+      answers =
+          0 ∷ 0 ∷ 0 ∷ 0 ∷ 0 ∷ 0 ∷ 0 ∷ 0 ∷ 0 ∷ 0 ∷ 0 ∷ 0 ∷ 0 ∷ 0 ∷ 0 ∷ 0 ∷ 0 ∷ 0 ∷ 0 ∷ 0 ∷ 0 ∷ 0 ∷ 0 ∷ 0 ∷ 0 ∷ [];
+      left = 0;
+      views = sent-at 18 5 273 (three 4 2 2) ∷ sent-at 23 5 273 (three 4 2 2) ∷ sent-at 24 5 273 (three 4 2 2) ∷ [];
+    }
+unfolding summary
+overtaken-summary = refl

@@ -1,0 +1,15 @@
+pub mod Invariants
+pub mod LastProposal
+pub mod Rounds
+pub mod Core
+pub mod AfterTests
+pub mod Quiet
+pub mod Count
+pub mod Joined
+pub mod Bound
+pub mod Fair
+pub mod OnWay
+pub mod Settling
+pub mod Scenarios
+pub mod Alive
+pub mod Needed

@@ -1,0 +1,187 @@
+-- The hypotheses of the settling rule are needed: for each of seven a scenario that fails this one alone. At its end nothing is on its way
+-- between offices 0 and 1, and their latest views are not one view of {0, 4} sent since their last reports. (A is {0, 4}, that is 17.)
+use mathlib.Core.Path.{_≡_, refl}
+use mathlib.Core.List.{[], _∷_}
+use Rattle.rules.specs.State.{zeros}
+use Rattle.runs.specs.World.{report, delivery, loss}
+use Rattle.settling.specs.Scenarios.{Scenario, starts-fresh, no-mail, others-pass, net-is-A, full-room, no-ceiling, none-lost}
+use Rattle.settling.specs.Scenarios.{summary, no-view, sent-at, join, hand, inNone, three}
+
+-- none-lost: office 0's only proposal is lost after its last report. Office 0 sends view 2, office 1 none.
+abbrev lost-after : Scenario
+lost-after = record { set = 17; begun = []; posted = []; events = join 0 17 ∷ join 1 17 ∷ loss 0 1 0 ∷ hand 1 0 ∷ [] }
+
+lost-after-summary :
+    summary lost-after
+    ≡ record {
+      fails = none-lost ∷ [];
+      point = 2;
+      on-way = 2;
+      offices = 2;
+      bound = 10;
+      delivered = 1;
+      answers = 0 ∷ 0 ∷ 0 ∷ [];
+      left = 0;
+      views = sent-at 3 2 17 (three 1 1 0) ∷ no-view ∷ no-view ∷ [];
+    }
+unfolding summary
+lost-after-summary = refl
+
+-- net-is-A: office 1's last report leaves it with {4} alone, so that it sends a view of its own seat at once. Office 0 waits.
+abbrev net-differs : Scenario
+net-differs = record { set = 17; begun = []; posted = []; events = join 0 17 ∷ join 1 16 ∷ hand 0 1 ∷ [] }
+
+net-differs-summary :
+    summary net-differs
+    ≡ record {
+      fails = net-is-A ∷ [];
+      point = 2;
+      on-way = 1;
+      offices = 2;
+      bound = 7;
+      delivered = 1;
+      answers = 0 ∷ 0 ∷ 0 ∷ [];
+      left = 0;
+      views = no-view ∷ sent-at 1 2 16 (three 0 1 0) ∷ no-view ∷ [];
+    }
+unfolding summary
+net-differs-summary = refl
+
+-- full-room: office 1 has room for 181 bytes when office 0's proposal comes, and answers 3.
+abbrev no-room : Scenario
+no-room = record { set = 17; begun = []; posted = []; events = join 0 17 ∷ join 1 17 ∷ delivery 0 1 181 ∷ hand 1 0 ∷ [] }
+
+no-room-summary :
+    summary no-room
+    ≡ record {
+      fails = full-room ∷ [];
+      point = 2;
+      on-way = 2;
+      offices = 2;
+      bound = 10;
+      delivered = 2;
+      answers = 0 ∷ 0 ∷ 3 ∷ 0 ∷ [];
+      left = 0;
+      views = sent-at 3 2 17 (three 1 1 0) ∷ no-view ∷ no-view ∷ [];
+    }
+unfolding summary
+no-room-summary = refl
+
+-- no-ceiling: offices 0 and 1 send view 2. Office 0 then agrees with office 2 on {0, 8}, in a slow round of number L - 1 (event 5: view 3),
+-- and goes back to {0, 4}: its fast proposal has number L. Office 1 in mode none would make number L + 1, and answers 13.
+abbrev at-ceiling : Scenario
+at-ceiling =
+    record {
+      set = 17;
+      begun = [];
+      posted =
+          record {
+            to = 0;
+            proposal =
+                record { sender = 2; kind = 2; members = record { bits = 257 }; start = 1; number = 1_999_999_999; used = three 0 0 0 };
+          } ∷ [];
+      events =
+          join 0 17 ∷ join 1 17 ∷ hand 0 1 ∷ hand 1 0
+          ∷ report 0 (record { joining = record { bits = 256 }; leaving = record { bits = 16 } }) 182 ∷ hand 2 0
+          ∷ report 0 (record { joining = record { bits = 16 }; leaving = record { bits = 256 } }) 182 ∷ hand 0 1 ∷ [];
+    }
+
+at-ceiling-summary :
+    summary at-ceiling
+    ≡ record {
+      fails = no-ceiling ∷ [];
+      point = 7;
+      on-way = 1;
+      offices = 2;
+      bound = 7;
+      delivered = 1;
+      answers = 0 ∷ 0 ∷ 0 ∷ 0 ∷ 0 ∷ 0 ∷ 0 ∷ 13 ∷ [];
+      left = 0;
+      views = sent-at 5 3 257 (three 2 0 1) ∷ sent-at 2 2 17 (three 1 1 0) ∷ no-view ∷ [];
+    }
+unfolding summary
+at-ceiling-summary = refl
+
+-- starts-fresh: office 1 starts with 5 as the number last accepted from office 0, so that it answers 11 to number 1.
+abbrev not-fresh : Scenario
+not-fresh =
+    record {
+      set = 17;
+      begun = record { office = 1; state = inNone 1 0 0 0 (three 5 0 0) zeros } ∷ [];
+      posted = [];
+      events = join 0 17 ∷ join 1 17 ∷ hand 0 1 ∷ hand 1 0 ∷ [];
+    }
+
+not-fresh-summary :
+    summary not-fresh
+    ≡ record {
+      fails = starts-fresh ∷ [];
+      point = 2;
+      on-way = 2;
+      offices = 2;
+      bound = 10;
+      delivered = 2;
+      answers = 0 ∷ 0 ∷ 11 ∷ 0 ∷ [];
+      left = 0;
+      views = sent-at 3 2 17 (three 1 1 0) ∷ no-view ∷ no-view ∷ [];
+    }
+unfolding summary
+not-fresh-summary = refl
+
+-- no-mail: a proposal with start 7 and number 9 is on the link from office 0 to office 1 at first. Office 1 counts it into view 8 and answers
+-- 11 to the one that office 0 makes; office 0 sends view 2.
+abbrev old-mail : Scenario
+old-mail =
+    record {
+      set = 17;
+      begun = [];
+      posted =
+          record {
+            to = 1;
+            proposal = record { sender = 0; kind = 1; members = record { bits = 17 }; start = 7; number = 9; used = three 0 0 0 };
+          } ∷ [];
+      events = join 0 17 ∷ join 1 17 ∷ hand 0 1 ∷ hand 0 1 ∷ hand 1 0 ∷ [];
+    }
+
+old-mail-summary :
+    summary old-mail
+    ≡ record {
+      fails = no-mail ∷ [];
+      point = 2;
+      on-way = 3;
+      offices = 2;
+      bound = 13;
+      delivered = 3;
+      answers = 0 ∷ 0 ∷ 0 ∷ 11 ∷ 0 ∷ [];
+      left = 0;
+      views = sent-at 4 2 17 (three 1 1 0) ∷ sent-at 2 8 17 (three 7 1 0) ∷ no-view ∷ [];
+    }
+unfolding summary
+old-mail-summary = refl
+
+-- others-pass: the state at office 3 has own office 0, so that its report forges a proposal of office 0, with start 7. Office 1 counts it
+-- into view 8 and answers 11 to the true one.
+abbrev forged : Scenario
+forged =
+    record {
+      set = 17;
+      begun = record { office = 3; state = inNone 0 0 6 0 zeros zeros } ∷ [];
+      posted = [];
+      events = join 3 17 ∷ join 0 17 ∷ join 1 17 ∷ hand 3 1 ∷ hand 0 1 ∷ hand 1 0 ∷ [];
+    }
+
+forged-summary :
+    summary forged
+    ≡ record {
+      fails = others-pass ∷ [];
+      point = 3;
+      on-way = 2;
+      offices = 2;
+      bound = 10;
+      delivered = 2;
+      answers = 0 ∷ 0 ∷ 0 ∷ 0 ∷ 11 ∷ 0 ∷ [];
+      left = 0;
+      views = sent-at 5 2 17 (three 1 1 0) ∷ sent-at 3 8 17 (three 7 1 0) ∷ no-view ∷ [];
+    }
+unfolding summary
+forged-summary = refl

@@ -1,0 +1,262 @@
+-- The settling rule, proved: `settles` is the statement of Statement.antt.
+use mathlib.Core.Path.{_≡_, refl, sym, ap, subst, _∙_}
+use mathlib.Core.Bool.{Bool, true, false}
+use mathlib.Core.List.{List, [], _∷_}
+use Prim.Native.Nat.{ℕ, _+_, _-_, _*_, _≤_, _<_}
+use native.Mathlib.Omega.{arith}
+use lib.ListN.{length, drop}
+use lib.Seq.{drop-length}
+use lib.Dec.{ltb}
+use borrow.Author.Tests.{ltb-true, ltb-false}
+use Rattle.seats.specs.Seats.{serves}
+use Rattle.records.specs.declared.Report.{Report}
+use Rattle.records.specs.declared.Proposal.{Proposal}
+use Rattle.records.specs.declared.View.{View}
+use Rattle.rules.specs.State.{State}
+use Rattle.rules.specs.Refusals.{Result}
+use Rattle.rules.proofs.Steps.{Passes}
+use Rattle.runs.specs.World.{Item, World, atFirst, WorldEvent, report, delivery, All, at, Nth, Gives, to-report, to-proposal}
+use Rattle.runs.specs.Begins.{Begins}
+use Rattle.runs.proofs.Arrays.{Offices, Numbers, Happens, viewWith}
+use Rattle.runs.proofs.Links.{all-head}
+use Rattle.runs.proofs.Accepting.{unheard}
+use Rattle.runs.proofs.WorldArrays.{SeenAll, below-sixteen}
+use Rattle.runs.proofs.Start.{atStart, start-numbers}
+use Rattle.runs.proofs.Places.{nth-same, at-next, drop-next, clock-first, along}
+use Rattle.runs.proofs.Runs.{Shown, shown-along, shown-at}
+use Rattle.settling.specs.Statement.{onWay, countOf, deliveryOne, deliveries, OfA, Assumed, AllReported, Settled, Settles}
+use Rattle.settling.proofs.Invariants.{Done, Inv, HappensFairly}
+use Rattle.settling.proofs.AfterTests.{inv-acts}
+use Rattle.settling.proofs.Quiet.{quiet-view}
+use Rattle.settling.proofs.Bound.{Goes, at-first, acted, delivered}
+use Rattle.settling.proofs.Fair.{Fair, fair-acts}
+use Rattle.runs.proofs.NetView.{net-kept, net-at-end}
+use Rattle.settling.proofs.OnWay.{Empty, none-on-way, same-way, quiet-acts}
+
+-- before the first event no last report has come
+start-inv : (A : ℕ) (last : ℕ → ℕ) → Inv A last 0 atStart
+start-inv A last = record {
+  core = record {
+    numbers = start-numbers (serves A);
+    book = record {
+      net-A = λ i d. never i d;
+      made-A = λ i d. never i d;
+      made-num = λ i d. never i d;
+      made-kind = λ i d. never i d;
+      place = λ i j d b n. never i d;
+      made-used = λ i j d b n. never i d;
+    };
+    rounds = record {
+      own-stored = λ i d m. never i d;
+      own-kind = λ i d m. never i d;
+      own-used = λ i j d b n m. never i d;
+      viewed = λ i d m. never i d;
+      viewed-own = λ i d m. never i d;
+      counts = λ i j d e n m u. never i d;
+      slow-used = λ i j d b n m k. never i d;
+      not-behind = λ i j d b n k u. never i d;
+      tells-above = λ i j d b n k. never i d;
+    };
+  };
+  tested = λ i d. never i d;
+  not-arrived = λ i j d e n u l. never i d;
+}
+  where
+    never : {B : Type 0} (i : ℕ) → Done A last 0 i → B
+    never i d = let l = d .1 in absurd (omega arith)
+
+module _ (A : ℕ) (states : ℕ → State) (links : ℕ → ℕ → List Item) (es : List WorldEvent) (last : ℕ → ℕ) (known : Assumed A states links es last) where
+  abbrev start : World
+  start = atFirst states links
+
+  -- the world before event n
+  abbrev world : ℕ → World
+  world n = at start es n
+
+  begins : Begins (serves A) states links
+  begins = record {
+    starts-fresh = known .starts-fresh;
+    no-mail = known .no-mail;
+    others-own = λ o lt n. known .others-pass o lt n .0;
+    others-mail = known .others-mail;
+  }
+
+  clock-is : (n : ℕ) → n ≤ length es → world n .clock ≡ n
+  clock-is = clock-first states links es
+
+  -- after its last report an office of A has A as its net view, for so it is at the end
+  net-from : (n i : ℕ) → n ≤ length es → OfA A i → last i < n → world n .state i .net .bits ≡ A
+  net-from n i le q lt =
+      along (λ k. world n .state i .net .bits ≡ world k .state i .net .bits) es n (length es) le (omega arith) refl
+      (λ k e h x y. y ∙ sym (net-kept (world k) e i (known .among k e x) (no-report k h e x))
+      ∙ ap (λ (w : World). w .state i .net .bits) (sym (at-next start es k e x)))
+      ∙ net-at-end states links es i (known .among) (known .starts-fresh i q) ∙ known .net-is-A i q
+    where
+      no-report : (k : ℕ) → n ≤ k → (e : WorldEvent) → Nth es k e → (r : Report) (room : ℕ) → e ≡ report i r room → ⊥
+      no-report k h e x r room z = known .has-last i q .1 k (omega arith) (r, room, subst (Nth es k) z x)
+
+  -- what is assumed of each event
+  fair : (n : ℕ) (e : WorldEvent) → Nth es n e → Fair A last (world n) e
+  fair n e h =
+      let lt = h .0 in
+      let c : world n .clock ≡ n = clock-is n (omega arith) in
+      record {
+        answers = λ i r q g. (known .full-room n i r e q h g, known .no-ceiling n i r e q h g);
+        keeps = λ i j place x a b k. known .none-lost n i j place x a b (subst (Nth es n) k h);
+        not-after = λ i r room q k. not-later i r room q c (subst (Nth es n) k h);
+        is-last = λ i q k. the-report i q (k ∙ c);
+        final = λ i q k.
+            ap (λ (w : World). w .state i .net .bits) (sym (at-next start es n e h)) ∙ net-from (n + 1) i (omega arith) q (omega arith);
+      }
+    where
+      not-later : (i : ℕ) (r : Report) (room : ℕ) → OfA A i → world n .clock ≡ n → Nth es n (report i r room) → world n .clock ≤ last i
+      not-later i r room q c k = go (ltb (last i) n) refl
+        where
+          go : (t : Bool) → ltb (last i) n ≡ t → world n .clock ≤ last i
+          go true b = absurd (known .has-last i q .1 n (ltb-true (last i) n b) (r, room, k))
+          go false b = let a = ltb-false (last i) n b in omega arith
+
+      the-report : (i : ℕ) → OfA A i → last i ≡ n → (r : Report) × (room : ℕ) × (e ≡ report i r room)
+      the-report i q k =
+          let r = known .has-last i q .0 in
+          (r .0, r .1, nth-same es n e (report i (r .0) (r .1)) h (subst (λ (m : ℕ). Nth es m (report i (r .0) (r .1))) k (r .2)))
+
+  -- event n, where arrays g show the world before it
+  step-acts : (n : ℕ) (e : WorldEvent) → Nth es n e → (g h : Offices) → SeenAll (serves A) (world n) g → Happens (serves A) (world n) e g h
+      → SeenAll (serves A) (world (n + 1)) h → HappensFairly A last n (deliveryOne A (world n) e) g h
+  step-acts n e k g h s a v =
+      let lt = k .0 in
+      let c : world n .clock ≡ n = clock-is n (omega arith) in
+      subst (λ (t : ℕ). HappensFairly A last t (deliveryOne A (world n) e) g h) c
+      (fair-acts A last (world n) g s (known .among n e k) (fair n e k) a (subst (λ (w : World). SeenAll (serves A) w h) (at-next start es n e k) v))
+
+  -- arrays that show the world before event n, with the invariants and with I besides
+  abbrev Known : (ℕ → Offices → Type 0) → ℕ → Type 0
+  Known I = Shown (serves A) states links es begins (known .among) (λ n g. Inv A last n g × I n g)
+
+  module _ (I : ℕ → Offices → Type 0)
+      (keeps : (n : ℕ) (e : WorldEvent) → Nth es n e → (g h : Offices) → Inv A last n g → I n g → HappensFairly A last n (deliveryOne A (world n) e) g h
+      → I (n + 1) h) where
+    one : (n : ℕ) (e : WorldEvent) → Nth es n e → (g h : Offices) → SeenAll (serves A) (world n) g → Numbers (serves A) g → Inv A last n g × I n g
+        → Happens (serves A) (world n) e g h → SeenAll (serves A) (world (n + 1)) h → Inv A last (n + 1) h × I (n + 1) h
+    one n e k g h s c i a v = let f = step-acts n e k g h s a v in (inv-acts A last (i .0) f, keeps n e k g h (i .0) (i .1) f)
+
+    known-along : (n m : ℕ) → n ≤ m → m ≤ length es → Known I n → Known I m
+    known-along = shown-along (serves A) states links es begins (known .among) (λ n g. Inv A last n g × I n g) one
+
+    known-at : I 0 atStart → (n : ℕ) → n ≤ length es → Known I n
+    known-at i = shown-at (serves A) states links es begins (known .among) (λ n g. Inv A last n g × I n g) one (start-inv A last, i)
+
+  abbrev Whatever : ℕ → Offices → Type 0
+  Whatever n g = 0 ≤ n
+
+  any-time : (n : ℕ) → n ≤ length es → Known Whatever n
+  any-time = known-at Whatever (λ n e k g h v i a. omega arith) (omega arith)
+
+module _ (A : ℕ) (states : ℕ → State) (links : ℕ → ℕ → List Item) (es : List WorldEvent) (last : ℕ → ℕ) (T : ℕ)
+    (known : Assumed A states links es last) (after : AllReported A states links es last T) where
+  abbrev w-at : ℕ → World
+  w-at n = at (atFirst states links) es n
+
+  all-done : (n : ℕ) → T ≤ n → (i : ℕ) → OfA A i → last i < n
+  all-done n h i q = let a = after .after i q in omega arith
+
+  T-in : T ≤ length es
+  T-in = let j = after .at-once in let r = known .has-last (j .0) (j .1) .0 .2 .0 in let e = j .2 in omega arith
+
+  -- the proposals on their way at T, and the deliveries from a place on
+  abbrev P : ℕ
+  P = onWay A (w-at T .link)
+
+  from : ℕ → ℕ
+  from n = deliveries A (w-at n) (drop n es)
+
+  -- d deliveries since T, and the rest to come
+  Counted : ℕ → Offices → Type 0
+  Counted n g = (T ≤ n) × (d : ℕ) × Goes A last T P (after .after) d g × (d + from n ≡ from T)
+
+  count-one : (n : ℕ) (e : WorldEvent) → Nth es n e → (g h : Offices) → Inv A last n g → Counted n g
+      → HappensFairly A last n (deliveryOne A (w-at n) e) g h → Counted (n + 1) h
+  unfolding Counted from deliveries
+  count-one n e k g h v c a =
+      let b : deliveries A (w-at n) (drop n es) ≡ deliveryOne A (w-at n) e + deliveries A (w-at (n + 1)) (drop (n + 1) es)
+      = rw (drop-next es n e k, at-next (atFirst states links) es n e k) in
+      let l = c .0 in
+      let q = c .3 in
+      (omega arith, c .1 + deliveryOne A (w-at n) e, acted A last T P (after .after) v (c .0) a (c .2), omega arith)
+
+  bounded : from T ≤ P + countOf A * (countOf A - 1) * (P + countOf A)
+  unfolding Counted from deliveries
+  bounded =
+      let s = any-time A states links es last known T T-in in
+      let c : w-at T .clock ≡ T = clock-is A states links es last known T T-in in
+      let early : (i j : ℕ) → OfA A i → OfA A j → (i ≡ j → ⊥) → All (λ x. x .sent < T) (s .0 .link i j)
+      = λ i j a b n. subst (λ (t : ℕ). All (λ x. x .sent < t) (s .0 .link i j)) c (rw (s .1 .links i j (a, b .0, n)) at (s .1 .stamped i j (a, b .0, n))) in
+      let same : P ≡ onWay A (s .0 .link) = same-way A (w-at T .link) (s .0 .link) (λ i j a b n. s .1 .links i j (a, b .0, n)) in
+      let first : Goes A last T P (after .after) 0 (s .0)
+      = subst (λ (x : ℕ). Goes A last T x (after .after) 0 (s .0)) (sym same) (at-first A last T (after .after) (s .0) early) in
+      let r = known-along A states links es last known Counted count-one T (length es) T-in (omega arith)
+      (s .0, s .1, s .2, (s .3 .0, (omega arith, 0, first, omega arith))) in
+      let z : deliveries A (w-at (length es)) (drop (length es) es) ≡ 0 = rw (drop-length es) in
+      let b = delivered A last T P (after .after) (r .3 .1 .2) in
+      let q = r .3 .1 .3 in
+      omega arith
+
+  -- nothing is on its way between the offices of A
+  abbrev Still : ℕ → Offices → Type 0
+  Still n g = (T ≤ n) × Empty A (g .link)
+
+  abbrev Quiet : ℕ → Type 0
+  Quiet n = Known A states links es last known Still n
+
+  quiet-at : (n : ℕ) → T ≤ n → n ≤ length es → onWay A (w-at n .link) ≡ 0 → Quiet n
+  quiet-at n t h z =
+      let s = any-time A states links es last known n h in
+      (s .0, s .1, s .2, (s .3 .0, (t, λ i j a b m. sym (s .1 .links i j (a, b .0, m)) ∙ none-on-way A (w-at n .link) z i j a b m)))
+
+  quiet-on : (n m : ℕ) → n ≤ m → m ≤ length es → Quiet n → Quiet m
+  quiet-on = known-along A states links es last known Still
+      (λ n e k g h v s a. let l = s .0 in (omega arith, quiet-acts A last n (all-done n (s .0)) v (s .1) a))
+
+  -- what a quiet office of A answers: it writes nothing
+  silent : (n : ℕ) → T ≤ n → Quiet n → (e : WorldEvent) → Nth es n e → (i : ℕ) (r : Result) → OfA A i → Gives (w-at n) e i r → r .written ≡ []
+  silent n h q e k i r p (to-report o rep room) =
+      let c : w-at n .clock ≡ n = let l = k .0 in clock-is A states links es last known n (omega arith) in
+      let a = fair A states links es last known n (report o rep room) k .not-after o rep room p refl in
+      let b = after .after o p in
+      absurd (omega arith)
+  silent n h q e k j r p (to-proposal i o room x l front) = unheard (w-at n) o room (x .proposal) not-of-A
+    where
+      m : (i < 16) × (o < 16) × (i ≡ o → ⊥)
+      m = known .among n (delivery i o room) k
+
+      out : OfA A i → ⊥
+      out a =
+          let z : [] ≡ x ∷ l = sym (q .3 .1 .1 i o a p (m .2)) ∙ sym (q .1 .links i o (a, p .0, m .2)) ∙ front in
+          let y : _≡_ {A = ℕ} 0 1 = cc in omega arith
+
+      not-of-A : (r : Proposal) → Passes (w-at n .state o) r → r .sender ≡ x .proposal .sender → r .members .bits ≡ w-at n .state o .net .bits → ⊥
+      not-of-A r pass s e =
+          let sender : r .sender ≡ i = s ∙ all-head (rw front at (q .1 .named i o (m .0) (m .1))) in
+          let net : w-at n .state o .net .bits ≡ A
+          = q .1 .sim o p (below-sixteen (serves A) (p .0)) .net ∙ q .3 .0 .core .book .net-A o (p, all-done n h o p) in
+          out (m .0, ap (λ (y : ℕ). serves y i) (sym (e ∙ net)) ∙ ap (serves (r .members .bits)) (sym sender) ∙ pass .seat)
+
+  settled : (n : ℕ) → T ≤ n → n ≤ length es → onWay A (w-at n .link) ≡ 0 → (v : View) × Settled A states links es last n v
+  unfolding viewWith
+  settled n h k z =
+      let q = quiet-at n h k z in
+      let d : (i : ℕ) → OfA A i → Done A last n i = λ i a. (a, all-done n h i a) in (
+        viewWith A (λ o. q .0 .made o .start),
+        record {
+          of-A = refl;
+          latest = λ i a. let y = quiet-view A last n (q .0) (q .3 .0) d (q .3 .1 .1) i a in (y .0, y .1, q .1 .shown i a ∙ y .2, y .3);
+          no-more = λ m i r e le a x g. silent m (omega arith) (quiet-on n m le (let l = x .0 in omega arith) q) e x i r a g;
+        },
+      )
+
+-- the settling rule
+pub settles : (A : ℕ) (states : ℕ → State) (links : ℕ → ℕ → List Item) (es : List WorldEvent) → Settles A states links es
+unfolding from
+settles A states links es last T known after =
+    (bounded A states links es last T known after, settled A states links es last T known after)

@@ -1,0 +1,243 @@
+-- Scenarios, for examples of the settling rule: a set, sixteen offices, a list of events. What the rule assumes of a scenario is a list
+-- of tests that compute (proofs/Scenarios.antt turns them into the rule's own hypotheses); what it shows is one record of numbers, to be
+-- compared with numbers written by hand.
+use mathlib.Core.Bool.{Bool, true, false, _&&_, _||_, not}
+use mathlib.Core.List.{List, [], _∷_, _++_}
+use Prim.Native.Nat.{ℕ, zero, suc, _+_, _-_, _*_, _^_}
+use lib.ListN.{drop}
+use lib.Dec.{eqb, ltb}
+use Rattle.laws.specs.Bit.{bit}
+use Rattle.laws.specs.Big.{bytesAll}
+use Rattle.laws.specs.Fin.{allb, anyb, largest, sum}
+use Rattle.laws.specs.Tab.{tab}
+use Rattle.laws.specs.Upd.{ifb, upd}
+use Rattle.seats.specs.Seats.{has, serves, unionOf, withoutOf}
+use Rattle.records.specs.Layout.{encodeReport, decodeReport, encodeProposal, decodeProposal, markOf, formFor, formOf, checkFor, checkOf}
+use Rattle.records.specs.declared.Proposal.{Proposal}
+use Rattle.rules.specs.State.{None, State, zeros, nothing}
+use Rattle.rules.specs.Rules.{andThen, fresh, netAfter, withNet, seated, opened, noticeOf, opens, nextNumber, ownProposal, proposed, receives}
+use Rattle.rules.specs.Rules.{proposesFast, received, matching, matchingSlow, aboveOwn, usesOwn, slowCalled, joinedNumber, slowNumber}
+use Rattle.rules.specs.Rules.{proposesSlow, slowTest, agreesKind, isNone, agreed, startOf, viewOf, concluded, agreementTest, tests, reportRule}
+use Rattle.rules.specs.Rules.{proposalRule}
+use Rattle.rules.specs.Refusals.{slotWithin, wellFormed, unreadable, eventOf, wrongSender, wrongKind, wrongNumber, withoutSeat, strayUsed}
+use Rattle.rules.specs.Refusals.{notAbove, usedAhead, proposalChecks, accepting, actOf, stepOf}
+use Rattle.runs.specs.World.{netBy, Item, SentView, viewsIn, World, atFirst, WorldEvent, report, delivery, loss, answered, withLink, idle, onReport, onProposal, next, run, at}
+use Rattle.settling.specs.Statement.{onWay, countOf, deliveries}
+
+-- an office that does not start fresh, and a proposal that is on the link from its sender at first
+pub record NotFresh : Type 0 where
+  pub office : ℕ
+  pub state : State
+
+pub record Posted : Type 0 where
+  pub to : ℕ
+  pub proposal : Proposal
+
+pub record Scenario : Type 0 where
+  pub set : ℕ
+  pub begun : List NotFresh
+  pub posted : List Posted
+  pub events : List WorldEvent
+
+abbrev pub stateIn : List NotFresh → ℕ → State
+stateIn [] i = fresh i
+stateIn (b ∷ bs) i = ifb (eqb (b .office) i) (b .state) (stateIn bs i)
+
+abbrev pub linkIn : List Posted → ℕ → ℕ → List Item
+linkIn [] i j = []
+linkIn (x ∷ xs) i j =
+    ifb (eqb (x .proposal .sender) i && eqb (x .to) j) (record { proposal = x .proposal; sent = 0 } ∷ linkIn xs i j) (linkIn xs i j)
+
+abbrev pub opening : Scenario → World
+opening p = atFirst (stateIn (p .begun)) (linkIn (p .posted))
+
+-- Tests. t holds of each event of a list with the world before it
+unfoldable pub everywhere : (World → WorldEvent → Bool) → World → List WorldEvent → Bool
+everywhere t w [] = true
+everywhere t w (e ∷ es) = t w e && everywhere t (next w e) es
+
+abbrev pub amongb : World → WorldEvent → Bool
+amongb w (report o r room) = ltb o 16 && (ltb (r .joining .bits) (2 ^ 64) && ltb (r .leaving .bits) (2 ^ 64))
+amongb w (delivery i j room) = ltb i 16 && (ltb j 16 && not (eqb i j))
+amongb w (loss i j place) = ltb i 16 && (ltb j 16 && not (eqb i j))
+
+-- no office of the set x answers c
+abbrev pub handedNot : ℕ → World → ℕ → ℕ → List Item → Bool
+handedNot c w j room [] = true
+handedNot c w j room (y ∷ l) = not (eqb (onProposal w j (y .proposal) room .refusal) c)
+
+abbrev pub answersNot : ℕ → ℕ → World → WorldEvent → Bool
+answersNot x c w (report o r room) = not (serves x o) || not (eqb (onReport w o r room .refusal) c)
+answersNot x c w (delivery i j room) = not (serves x j) || handedNot c w j room (w .link i j)
+answersNot x c w (loss i j place) = true
+
+-- a loss between offices of x takes only what was sent before the sender's last report
+abbrev pub olderAt : ℕ → ℕ → List Item → Bool
+olderAt t place [] = true
+olderAt t zero (y ∷ l) = ltb (y .sent) t
+olderAt t (suc n) (y ∷ l) = olderAt t n l
+
+abbrev pub losesOld : ℕ → (ℕ → ℕ) → World → WorldEvent → Bool
+losesOld x last w (report o r room) = true
+losesOld x last w (delivery i j room) = true
+losesOld x last w (loss i j place) = not (serves x i) || (not (serves x j) || olderAt (last i) place (w .link i j))
+
+abbrev pub reportsTo : ℕ → WorldEvent → Bool
+reportsTo i (report o r room) = eqb o i
+reportsTo i (delivery a b room) = false
+reportsTo i (loss a b place) = false
+
+abbrev pub noneTo : ℕ → List WorldEvent → Bool
+noneTo i [] = true
+noneTo i (e ∷ es) = not (reportsTo i e) && noneTo i es
+
+-- the place of the last report to office i, where there is one
+abbrev pub lastTo : List WorldEvent → ℕ → ℕ
+lastTo [] i = 0
+lastTo (e ∷ es) i = ifb (noneTo i es) 0 (suc (lastTo es i))
+
+abbrev pub allFresh : ℕ → List NotFresh → Bool
+allFresh x [] = true
+allFresh x (b ∷ bs) = not (serves x (b .office)) && allFresh x bs
+
+abbrev pub noMail : ℕ → List Posted → Bool
+noMail x [] = true
+noMail x (y ∷ ys) = not (serves x (y .proposal .sender)) && noMail x ys
+
+abbrev pub passes : ℕ → State → Bool
+passes o s = eqb (s .own) o && wellFormed s
+
+-- of every office of x
+abbrev pub ofEach : ℕ → (ℕ → Bool) → Bool
+ofEach x t = allb 16 (λ i. not (serves x i) || t i)
+
+-- what the rule assumes, by its names
+pub data Hypothesis : Type 0 where
+  some-seat starts-fresh no-mail others-pass others-mail among has-last net-is-A full-room no-ceiling none-lost : Hypothesis
+
+unfoldable pub holds : Scenario → Hypothesis → Bool
+holds p some-seat = ltb 0 (p .set) && ltb (p .set) (2 ^ 64)
+holds p starts-fresh = allFresh (p .set) (p .begun)
+holds p no-mail = noMail (p .set) (p .posted)
+holds p others-pass = allb 16 (λ o. serves (p .set) o || passes o (stateIn (p .begun) o))
+-- a posted proposal stands on its sender's own link
+holds p others-mail = true
+holds p among = everywhere amongb (opening p) (p .events)
+holds p has-last = ofEach (p .set) (λ i. not (noneTo i (p .events)))
+holds p net-is-A = ofEach (p .set) (λ i. eqb (netBy (opening p) (p .events) i 0) (p .set))
+holds p full-room = everywhere (answersNot (p .set) 3) (opening p) (p .events)
+holds p no-ceiling = everywhere (answersNot (p .set) 13) (opening p) (p .events)
+holds p none-lost = everywhere (losesOld (p .set) (lastTo (p .events))) (opening p) (p .events)
+
+abbrev pub hypotheses : List Hypothesis
+hypotheses =
+    some-seat ∷ starts-fresh ∷ no-mail ∷ others-pass ∷ others-mail ∷ among ∷ has-last ∷ net-is-A ∷ full-room ∷ no-ceiling ∷ none-lost ∷ []
+
+abbrev pub failing : (Hypothesis → Bool) → List Hypothesis → List Hypothesis
+failing t [] = []
+failing t (x ∷ xs) = ifb (t x) [] (x ∷ []) ++ failing t xs
+
+-- the hypotheses that a scenario fails
+unfoldable pub fails : Scenario → List Hypothesis
+fails p = failing (holds p) hypotheses
+
+-- office i of the set is the last that is reported to: the point of the rule is just after that
+unfoldable pub reportedLast : Scenario → ℕ → Bool
+reportedLast p i = ltb i 16 && (serves (p .set) i && ofEach (p .set) (λ j. ltb (lastTo (p .events) j) (lastTo (p .events) i + 1)))
+
+-- the latest view that an office sent, with the event that sent it: the start numbers are of offices 0, 1, 2 and so on
+pub data Latest : Type 0 where
+  no-view : Latest
+  sent-at : (event number members : ℕ) (starts : List ℕ) → Latest
+
+abbrev pub latest : List SentView → Latest
+latest [] = no-view
+latest (v ∷ vs) = sent-at (v .sent) (v .view .number) (v .view .members .bits) (v .view .starts)
+
+-- what each report and delivery is answered; an event that hands nobody anything has no answer
+abbrev pub handed : World → ℕ → ℕ → List Item → List ℕ
+handed w j room [] = []
+handed w j room (x ∷ l) = onProposal w j (x .proposal) room .refusal ∷ []
+
+abbrev pub answer : World → WorldEvent → List ℕ
+answer w (report o r room) = onReport w o r room .refusal ∷ []
+answer w (delivery i j room) = handed w j room (w .link i j)
+answer w (loss i j place) = []
+
+unfoldable pub answersTo : World → List WorldEvent → List ℕ
+answersTo w [] = []
+answersTo w (e ∷ es) = answer w e ++ answersTo (next w e) es
+
+-- the point just after the last report to an office of the set
+unfoldable pub pointOf : Scenario → ℕ
+pointOf p = 1 + largest 16 (λ i. ifb (serves (p .set) i) (lastTo (p .events) i) 0)
+
+pub record Summary : Type 0 where
+  -- the hypotheses of the rule that it fails
+  pub fails : List Hypothesis
+  -- the rule's T, P and k, its bound, and the deliveries between the k from T on
+  pub point : ℕ
+  pub on-way : ℕ
+  pub offices : ℕ
+  pub bound : ℕ
+  pub delivered : ℕ
+  -- the answers, in order
+  pub answers : List ℕ
+  -- at the end: how many are on their way between the k, and the latest views of offices 0, 1, 2
+  pub left : ℕ
+  pub views : List Latest
+
+-- who unfolds this unfolds the rules
+unfoldable pub summary : Scenario → Summary
+unfolding bit bytesAll allb anyb largest sum tab upd has serves unionOf withoutOf encodeReport decodeReport encodeProposal decodeProposal
+    markOf formFor formOf checkFor checkOf andThen fresh netAfter withNet seated opened noticeOf opens nextNumber ownProposal proposed receives proposesFast received
+    matching matchingSlow aboveOwn usesOwn slowCalled joinedNumber slowNumber proposesSlow slowTest agreesKind isNone agreed startOf viewOf
+    concluded agreementTest tests reportRule proposalRule slotWithin wellFormed unreadable eventOf wrongSender wrongKind wrongNumber withoutSeat
+    strayUsed notAbove usedAhead proposalChecks accepting actOf stepOf atFirst answered withLink idle onReport onProposal next run netBy deliveries
+    everywhere holds fails reportedLast answersTo pointOf
+summary p =
+    let t = pointOf p in
+    let w = at (opening p) (p .events) t in
+    let end = run (opening p) (p .events) in
+    let way = onWay (p .set) (w .link) in
+    let k = countOf (p .set) in
+    record {
+      fails = fails p;
+      point = t;
+      on-way = way;
+      offices = k;
+      bound = way + k * (k - 1) * (way + k);
+      delivered = deliveries (p .set) w (drop t (p .events));
+      answers = answersTo (opening p) (p .events);
+      left = onWay (p .set) (end .link);
+      views = latest (viewsIn (end .log 0)) ∷ latest (viewsIn (end .log 1)) ∷ latest (viewsIn (end .log 2)) ∷ [];
+    }
+
+-- For short. Reports, and deliveries with full output room
+abbrev pub join : ℕ → ℕ → WorldEvent
+join o x = report o (record { joining = record { bits = x }; leaving = record { bits = 0 } }) 182
+
+abbrev pub leave : ℕ → ℕ → WorldEvent
+leave o x = report o (record { joining = record { bits = 0 }; leaving = record { bits = x } }) 182
+
+abbrev pub hand : ℕ → ℕ → WorldEvent
+hand i j = delivery i j 182
+
+-- an office in mode none with nothing stored and no view yet
+abbrev pub inNone : (own net start number : ℕ) (accepted used : List ℕ) → State
+inNone own net start number accepted used =
+    record {
+      own = own;
+      mode = None;
+      net = record { bits = net };
+      stored = tab 16 (λ o. nothing);
+      accepted = accepted;
+      view = record { number = 0; members = record { bits = 0 }; starts = zeros };
+      start = start;
+      number = number;
+      used = used;
+    }
+
+-- sixteen numbers that are 0 after the first three
+abbrev pub three : ℕ → ℕ → ℕ → List ℕ
+three a b c = a ∷ b ∷ c ∷ 0 ∷ 0 ∷ 0 ∷ 0 ∷ 0 ∷ 0 ∷ 0 ∷ 0 ∷ 0 ∷ 0 ∷ 0 ∷ 0 ∷ 0 ∷ []

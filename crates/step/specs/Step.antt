@@ -1,0 +1,51 @@
+-- The step on words: what comes of any words, any bytes and any output, and what making a state leaves.
+use mathlib.Core.Path.{_≡_}
+use mathlib.Core.Bool.{Bool, true}
+use mathlib.Core.List.{List, []}
+use Prim.Native.Nat.{ℕ, _≤_}
+use lib.ListN.{length}
+use lib.Dec.{eqb, leb}
+use lib.Seq.{sets}
+use Rattle.laws.specs.Upd.{ifb}
+use Rattle.rules.specs.Rules.{Written}
+use Rattle.rules.specs.Refusals.{fullRoom, Result, madeOf, stepOf, allBytes, size}
+use Rattle.row.specs.Row.{rowLength, stateOf, wordsOf, isRow, soundRow, lowRow}
+
+-- the refusal or 0, what was written, the words at the end
+pub record RowResult : Type 0 where
+  pub refusal : ℕ
+  pub written : List Written
+  pub words : List ℕ
+
+-- a refusal leaves the words as they were; acceptance leaves those of the state that the rules leave
+abbrev pub inRow : List ℕ → Result → RowResult
+inRow ws q = record { refusal = q .refusal; written = q .written; words = ifb (eqb (q .refusal) 0) (wordsOf (q .state)) ws }
+
+-- words that are no row get 2, as a state that fails check 2 does
+unfoldable pub stepRow : List ℕ → List ℕ → ℕ → RowResult
+stepRow ws b room = ifb (isRow ws) (inRow ws (stepOf (stateOf ws) b room)) (record { refusal = 2; written = []; words = ws })
+
+-- the answer is the result's, the words are the result's, and the bytes of what was written stand at the front of the output, whose rest is
+-- as it was
+pub record Stepped (q : RowResult) (o : List ℕ) (refusal written : ℕ) (ws′ o′ : List ℕ) : Type 0 where
+  pub same-refusal : refusal ≡ q .refusal
+  pub same-written : written ≡ size (q .written)
+  pub same-words : ws′ ≡ q .words
+  pub same-out : o′ ≡ sets o 0 (allBytes (q .written))
+
+-- Making a state: 1 comes first and gives the fresh state of office 0; words of another length get 2 (1 where the office is above 15)
+-- and stay.
+pub record MadeRow : Type 0 where
+  pub refusal : ℕ
+  pub words : List ℕ
+
+unfoldable pub freshRow : ℕ → List ℕ → MadeRow
+freshRow office ws =
+    ifb (eqb (length ws) rowLength) (record { refusal = madeOf office .refusal; words = wordsOf (madeOf office .state) })
+    (record { refusal = ifb (leb office 15) 2 1; words = ws })
+
+-- what the step knows of the words once checks 2 and 3 are passed
+pub record Ready (ws : List ℕ) (low : Bool) (room : ℕ) : Type 0 where
+  pub sound : soundRow ws ≡ true
+  pub is-low : low ≡ lowRow ws
+  pub fits : fullRoom ≤ room

@@ -1,0 +1,2 @@
+pub mod Lowness
+pub mod Made

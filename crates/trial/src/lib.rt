@@ -1,0 +1,41 @@
+// Whether check 13 passes an event, inner to the layer of the step: where a number is near L, the event is tried on a copy of the row.
+use checks::ROOM;
+use checks::made_within;
+use records::Proposal;
+use records::Report;
+use row::LOW;
+ghost use mathlib.Core.Path.{_≡_};
+ghost use mathlib.Core.Bool.{true};
+ghost use Rattle.rules.specs.Rules.{reportRule, proposalRule};
+ghost use Rattle.rules.specs.Refusals.{wellFormed, firstOf, proposalChecks};
+ghost use Rattle.row.specs.Row.{stateOf, soundRow, lowRow};
+
+// Check 13 on a report: it makes no number above L. Where a number is near L, the report is tried on a copy.
+pub fn report_within(state: &[u32], low: bool, r: Report) -> bool
+    requires { ⌜ (soundRow (now state) ≡ true) × (low ≡ lowRow (now state)) ⌝ }
+    ensures { λ t. ⌜ t ≡ wellFormed (reportRule (stateOf (now (state .entry))) r .state) ⌝ }
+{
+    if low {
+        return true;
+    }
+    let mut tried = [0u32; row::WORDS];
+    let mut bytes = [0u8; ROOM];
+    row_changes::copy(state, &mut tried);
+    membership::act_on_report(&mut tried, r, &mut bytes);
+    made_within(&tried)
+}
+
+// Check 13 on a proposal that passes 6 to 12.
+pub fn proposal_within(state: &[u32], low: bool, p: Proposal) -> bool
+    requires { ⌜ (soundRow (now state) ≡ true) × (low ≡ lowRow (now state)) × (firstOf (proposalChecks (stateOf (now state)) p) ≡ 0) ⌝ }
+    ensures { λ t. ⌜ t ≡ wellFormed (proposalRule (stateOf (now (state .entry))) p .state) ⌝ }
+{
+    if low & (p.start <= LOW) & (p.number <= LOW) {
+        return true;
+    }
+    let mut tried = [0u32; row::WORDS];
+    let mut bytes = [0u8; ROOM];
+    row_changes::copy(state, &mut tried);
+    membership::act_on_proposal(&mut tried, p, &mut bytes);
+    made_within(&tried)
+}

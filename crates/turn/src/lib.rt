@@ -1,0 +1,93 @@
+// A turn, inner to the program: what is unwritten is written where that is due, then more is read or the record in front is answered.
+use answer::Acted;
+use answer::answer;
+use buffers::Place;
+use buffers::front;
+use buffers::has_room;
+use buffers::make_room;
+use buffers::refill;
+use buffers::waits;
+ghost use mathlib.Core.Path.{_≡_};
+ghost use mathlib.Core.Bool.{true};
+ghost use Prim.Native.Nat.{_+_, _<_, _^_};
+ghost use lib.ListN.{length};
+ghost use Rattle.buffers.specs.Place.{Within, windowOf, waitsOf, roomFor};
+ghost use Rattle.answer.specs.Held.{Sound};
+ghost use Rattle.turn.specs.Turn.{Acts, Turns};
+
+// `sent` of the unwritten bytes were written; `failed` says that the others could not be.
+pub struct Turned {
+    pub more: bool,
+    pub failed: bool,
+    pub sent: usize,
+    pub place: Place,
+}
+
+// More of the input where that can change what stands in front; else the record in front; nothing where the input has ended.
+fn act(
+    state: &mut [u32],
+    p: Place,
+    input: &mut [u8],
+    output: &mut [u8],
+    waiting: bool,
+    traced: bool,
+) -> Acted
+    requires { ⌜ Sound (now state) × Within p × (waiting ≡ waitsOf (p .ended) (windowOf p (now input))) × (roomFor (p .filled) waiting ≡ true)
+        × (length (now input) ≡ 65536) × (length (now output) ≡ 65536) × (p .number + 1 < 2 ^ 64) ⌝ }
+    ensures { λ r. ⌜ Acts traced (now (state .entry)) p (now (input .entry)) (now (output .entry)) r
+        (now (state .exit)) (now (input .exit)) (now (output .exit)) ⌝ }
+{
+    if waiting {
+        return Acted {
+            more: true,
+            place: refill(p, input),
+        };
+    }
+    if p.at == p.end {
+        return Acted {
+            more: false,
+            place: p,
+        };
+    }
+    answer(state, p, front(input, p.at, p.end), output, traced)
+}
+
+// What is unwritten is written before the program waits, and where a line could have no room.
+pub fn turn(
+    state: &mut [u32],
+    p: Place,
+    input: &mut [u8],
+    output: &mut [u8],
+    traced: bool,
+) -> Turned
+    requires { ⌜ Sound (now state) × Within p × (length (now input) ≡ 65536) × (length (now output) ≡ 65536) × (p .number + 1 < 2 ^ 64) ⌝ }
+    ensures { λ r. ⌜ Turns traced (now (state .entry)) p (now (input .entry)) (now (output .entry)) r
+        (now (state .exit)) (now (input .exit)) (now (output .exit)) ⌝ }
+{
+    let waiting = waits(p, input);
+    let sent = make_room(output, p.filled, waiting);
+    let q = Place {
+        ended: p.ended,
+        at: p.at,
+        end: p.end,
+        filled: p.filled - sent,
+        number: p.number,
+    };
+    if has_room(q.filled, waiting) {
+        let t = act(state, q, input, output, waiting, traced);
+        let next = t.place;
+        Turned {
+            more: t.more,
+            failed: false,
+            sent,
+            place: next,
+        }
+    } else {
+        Turned {
+            more: true,
+            failed: true,
+            sent,
+            place: q,
+        }
+    }
+}
