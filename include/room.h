@@ -1,4 +1,8 @@
-/* What the desk program asks of the room server, with plain numbers and byte buffers. Link with libcapi.a. */
+/* What a C program asks of the room server, with plain numbers and buffers. Link with libcapi.a.
+ *
+ * Nothing checks the pointers: none may be NULL, even where its length is 0; each must point at as many elements as the
+ * length beside it says; a `uint32_t *` must be aligned for uint32_t; no two buffers of one call may overlap; and no other
+ * thread may use a buffer during the call. */
 #ifndef ROOM_H
 #define ROOM_H
 
@@ -13,12 +17,32 @@ extern "C" {
  *   4  it has under two bytes, or its mark is neither 4E 45 (report) nor 50 52 (proposal)
  *   5  its length is not 18 for a report or 84 for a proposal
  *   0  it passes both; what stands behind the mark is not looked at
- * The first that applies is returned. `bytes` must not be NULL, even where `length` is 0. The bytes are only read. */
+ * The first that applies is returned. The bytes are only read. */
 uint8_t room_record_check(const uint8_t *bytes, size_t length);
 
 /* The offices of a seat set. Bit s of `set` is set when seat s, 0 to 63, is in it; seat s belongs to office s / 4, rounded
  * down. Bit o of the answer is set when office o, 0 to 15, has at least one seat in the set; 0 for the empty set. */
 uint16_t room_offices(uint64_t set);
+
+/* The words of a state. Their places are in docs/LAYOUT.md; a program need not know them, and may store and copy the words. */
+#define ROOM_STATE_WORDS 425
+
+/* Makes the fresh state of an office in `state`, over any words.
+ *   0  it is made
+ *   1  the office is above 15; the fresh state of office 0 is made where `words` is ROOM_STATE_WORDS
+ *   2  the office is at most 15 and `words` is not ROOM_STATE_WORDS
+ * Where `words` is not ROOM_STATE_WORDS no word is touched. */
+uint8_t room_fresh(uint8_t office, uint32_t *state, size_t words);
+
+/* Hands the record of `length` bytes to a state, which changes in place; what is written stands from the start of `out`,
+ * whose length is `room`. The answer is 256 x the bytes written + the refusal or 0:
+ *   answer % 256  0 where the record is accepted, or the first that applies of 2 to 13: 2 where `words` is not
+ *                 ROOM_STATE_WORDS or the words are no state, 3 where `room` is under 182, 4 and 5 as above, 6 to 13 as the
+ *                 room server's rules number them
+ *   answer / 256  the bytes written, at most 182; 0 where the record is refused
+ * Where the record is refused, no word of the state and no byte of the output is touched. Where it is accepted, no byte after
+ * those written is. The record is only read. */
+uint32_t room_step(uint32_t *state, size_t words, const uint8_t *record, size_t length, uint8_t *out, size_t room);
 
 #ifdef __cplusplus
 }

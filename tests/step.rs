@@ -1,0 +1,352 @@
+// The calls of libcapi.a that make and change a state, beside the model: every answer, every word and every byte. Each case is a
+// kind of input; it passes when the two agree on all of its inputs.
+#[allow(dead_code)]
+#[path = "common/model.rs"]
+mod model;
+#[path = "common/play.rs"]
+mod play;
+#[path = "common/random.rs"]
+mod random;
+#[path = "common/rows.rs"]
+mod rows;
+
+use model::{mark_length, offices, report, Proposal, FAST, L, ROOM, SLOW};
+use play::{Habits, Play};
+use random::Random;
+use rows::WORDS;
+
+#[link(name = "capi", kind = "static")]
+extern "C" {
+    fn room_fresh(office: u8, state: *mut u32, words: usize) -> u8;
+    fn room_step(state: *mut u32, words: usize, record: *const u8, length: usize, out: *mut u8, room: usize) -> u32;
+}
+
+// Words and bytes that stand around what is lent, and must stay.
+const AROUND: usize = 16;
+const WORD: u32 = 0xa5c3_96e7;
+const BYTE: u8 = 0xb7;
+
+// Each refusal, and 0, as often as it came.
+struct Reached([u64; 14]);
+
+struct Compared<'a> {
+    row: Vec<u32>,
+    expected: Vec<u32>,
+    out: Vec<u8>,
+    written: Vec<u8>,
+    inputs: u64,
+    wrong: u64,
+    reached: &'a mut Reached,
+    name: &'a str,
+}
+
+impl Compared<'_> {
+    // One record on a row, with an output of a length: both answers, and the row as both leave it. The row stays in `row` with the words
+    // around it.
+    fn hand(&mut self, record: &[u8], room: usize) -> u8 {
+        let words = self.row.len() - 2 * AROUND;
+        let lent = AROUND..AROUND + words;
+        self.expected.clone_from(&self.row);
+        let refusal = rows::step(&mut self.expected[lent], record, room, &mut self.written);
+        let answer = 256 * self.written.len() as u32 + refusal as u32;
+
+        self.out.clear();
+        self.out.resize(room + 2 * AROUND, BYTE);
+        let kept = record.to_vec();
+        let got = unsafe {
+            let (state, out) = (self.row.as_mut_ptr().add(AROUND), self.out.as_mut_ptr().add(AROUND));
+            room_step(state, words, record.as_ptr(), record.len(), out, room)
+        };
+        let end = AROUND + self.written.len();
+        let bytes = self.out[AROUND..end] == self.written[..]
+            && self.out[..AROUND].iter().chain(&self.out[end..]).all(|&b| b == BYTE);
+        let same = got == answer && self.row == self.expected && bytes && record == kept;
+        self.inputs += 1;
+        self.reached.0[refusal.min(13) as usize] += 1;
+        if !same {
+            self.wrong += 1;
+            if self.wrong <= 5 {
+                let at = (0..self.row.len()).find(|&k| self.row[k] != self.expected[k]);
+                println!("{}: {words} words, record {:02x?}, room {room}: got {got}, expected {answer}, first word that differs {:?}, \
+                    bytes {bytes}", self.name, &record[..record.len().min(20)], at.map(|k| k as isize - AROUND as isize));
+            }
+            self.row.clone_from(&self.expected);
+        }
+        refusal
+    }
+
+    fn lend(&mut self, row: &[u32]) {
+        self.row.clear();
+        self.row.resize(AROUND, WORD);
+        self.row.extend_from_slice(row);
+        self.row.resize(row.len() + 2 * AROUND, WORD);
+    }
+
+    fn words(&self) -> &[u32] {
+        &self.row[AROUND..self.row.len() - AROUND]
+    }
+}
+
+struct Tally {
+    reached: Reached,
+    inputs: u64,
+    passed: u64,
+    failed: u64,
+}
+
+impl Tally {
+    fn check(&mut self, name: &str, holds: bool) {
+        if holds {
+            self.passed += 1;
+        } else {
+            println!("{name}: does not hold");
+            self.failed += 1;
+        }
+    }
+
+    fn case(&mut self, name: &str, run: impl FnOnce(&mut Compared)) -> u64 {
+        let mut compared = Compared {
+            row: Vec::new(),
+            expected: Vec::new(),
+            out: Vec::new(),
+            written: Vec::new(),
+            inputs: 0,
+            wrong: 0,
+            reached: &mut self.reached,
+            name,
+        };
+        run(&mut compared);
+        let (inputs, wrong) = (compared.inputs, compared.wrong);
+        println!("{name}: {inputs} compared");
+        self.inputs += inputs;
+        self.check(name, wrong == 0 && inputs > 0);
+        inputs
+    }
+}
+
+fn habits(random: &mut Random) -> Habits {
+    let (forged, damaged) = match random.below(3) {
+        0 => (0, 0),
+        1 => (100 + random.below(400), random.below(60)),
+        _ => (random.below(200), 200 + random.below(300)),
+    };
+    Habits { change: 4 + random.below(40), own_report: random.below(40), loss: random.below(20), swap: random.below(20), forged, damaged }
+}
+
+// The office of a play and the records that it is handed.
+fn a_play(random: &mut Random, records: usize) -> (usize, Vec<Vec<u8>>) {
+    let pool = random.next() & random.next() | 0xff;
+    let all: Vec<usize> = offices(pool).collect();
+    let kept = all[random.below(all.len())];
+    let habits = habits(random);
+    let mut play = Play::new(Random(random.next() | 1), habits, pool, kept);
+    play.go(records);
+    let mut rest = &play.input[1..];
+    let mut handed = Vec::new();
+    while !rest.is_empty() {
+        let (record, more) = rest.split_at(mark_length(rest).unwrap());
+        handed.push(record.to_vec());
+        rest = more;
+    }
+    (kept, handed)
+}
+
+fn some<T: Copy>(random: &mut Random, of: &[T]) -> T {
+    of[random.below(of.len())]
+}
+
+// One word of a row changed: numbers about L and about the numbers there, modes, presence, what stands behind an empty slot, sets at will.
+fn change(random: &mut Random, row: &mut [u32]) {
+    let o = random.below(16);
+    let low = (1 << 30) - 1;
+    let near = row[rows::NUMBER];
+    let any = random.next() as u32;
+    match random.below(16) {
+        0 => row[rows::MODE] = some(random, &[0, 1, 2, 0, 1, 2, 3, u32::MAX]),
+        1 => row[rows::slot(o)] = some(random, &[0, 1, 0, 1, 1, 2, u32::MAX]),
+        2 => row[rows::OWN] = some(random, &[o as u32, 15, 0, 16, 256]),
+        3 => row[rows::slot(o) + 1] = any,
+        4 => row[rows::slot(o) + 2] = some(random, &[0, 1, 2, 3, 257, 258, u32::MAX]),
+        5 => {
+            let at = rows::NET + random.below(4);
+            row[at] = some(random, &[0, any, row[rows::NET], 1 << (any % 32)]);
+        }
+        6 => row[rows::slot(o) + 3 + random.below(2)] = some(random, &[0, row[rows::NET], row[rows::NET + 1], any]),
+        7 => row[some(random, &[rows::START, rows::NUMBER, rows::VIEW_NUMBER])] = some(random, &[L - 2, L - 1, L, low, low + 1]),
+        8 => {
+            let at = rows::slot_numbers(o) + random.below(2);
+            row[at] = some(random, &[L - 1, L, low, low + 1, near, near + 1]);
+        }
+        9 => {
+            // behind an empty slot any word stands
+            if let Some(o) = (0..16).map(|k| (o + k) % 16).find(|&o| row[rows::slot(o)] == 0) {
+                let at = rows::slot_numbers(o) + random.below(18);
+                row[at] = any;
+            }
+        }
+        10 => row[rows::ACCEPTED + o] = some(random, &[0, L, near]),
+        11 => row[rows::START + random.below(WORDS - rows::START)] = some(random, &[L + 1, u32::MAX]),
+        _ => {
+            let at = rows::START + random.below(WORDS - rows::START);
+            row[at] = some(random, &[L, L - 1, 0, near, near + 1, low]);
+        }
+    }
+}
+
+// A record for a row: one of the play, or one that its numbers make likely to pass.
+fn some_record(random: &mut Random, row: &[u32], of_play: &[u8]) -> Vec<u8> {
+    let net = row[rows::NET] as u64 | (row[rows::NET + 1] as u64) << 32;
+    let own = row[rows::OWN] as usize % 16;
+    match random.below(4) {
+        0 => of_play.to_vec(),
+        1 => report(random.next() & random.next() & random.next() | 1 << (4 * own), random.next() & random.next() & random.next()),
+        _ => {
+            let sender = (own + 1 + random.below(15)) % 16;
+            let members = if random.below(3) == 0 { net } else { net | 1 << (4 * own) | 1 << (4 * sender) };
+            let number = some(random, &[row[rows::NUMBER], row[rows::ACCEPTED + sender].saturating_add(1), L, L - 1]).max(1);
+            let start = some(random, &[row[rows::START].max(1), 1, L, 1 << 30]);
+            let mut used = [0; 16];
+            for k in offices(members) {
+                used[k] = some(random, &[0, row[rows::NUMBER], 1]);
+            }
+            Proposal { sender: sender as u8, kind: some(random, &[FAST, SLOW]), members, start, number, used }.bytes()
+        }
+    }
+}
+
+fn making() -> bool {
+    (0..=255_u8).all(|office| {
+        (0..=WORDS + 75).all(|words| {
+            let mut lent = vec![WORD; words + 2 * AROUND];
+            let got = unsafe { room_fresh(office, lent.as_mut_ptr().add(AROUND), words) };
+            let mut expected = vec![WORD; words + 2 * AROUND];
+            let made = if office <= 15 { office as usize } else { 0 };
+            if words == WORDS {
+                expected[AROUND..AROUND + WORDS].copy_from_slice(&rows::fresh(made));
+            }
+            let number = if office > 15 { 1 } else if words != WORDS { 2 } else { 0 };
+            got == number && lent == expected
+        })
+    })
+}
+
+fn main() {
+    let mut tally = Tally { reached: Reached([0; 14]), inputs: 0, passed: 0, failed: 0 };
+    let t = &mut tally;
+
+    t.check("every office in words of every length", making());
+
+    let mut r = Random(0x9e37_79b9_7f4a_7c15);
+    let compared = t.case("the records of plays", |c| {
+        for _ in 0..600 {
+            let (own, records) = a_play(&mut r, 1000);
+            c.lend(&rows::fresh(own));
+            for record in &records {
+                c.hand(record, ROOM);
+            }
+        }
+    });
+    t.check("half a million records", compared >= 500_000);
+
+    let (mut changed, mut passed) = (0, 0);
+    t.case("rows of plays with none, one or two words changed", |c| {
+        let mut r = Random(2);
+        while changed < 300_000 {
+            let (own, records) = a_play(&mut r, 200);
+            c.lend(&rows::fresh(own));
+            for record in &records {
+                c.hand(record, ROOM);
+                let kept = c.words().to_vec();
+                for _ in 0..2 {
+                    let mut row = kept.clone();
+                    for _ in 0..r.below(3) {
+                        change(&mut r, &mut row);
+                    }
+                    let record = some_record(&mut r, &row, record);
+                    c.lend(&row);
+                    changed += 1;
+                    passed += (c.hand(&record, ROOM) != 2) as usize;
+                }
+                c.lend(&kept);
+            }
+        }
+    });
+    println!("{changed} rows, {passed} of them pass check 2");
+    t.check("half of the rows pass check 2", changed >= 100_000 && 2 * passed >= changed);
+
+    t.case("a row near the ceiling, record after record", |c| {
+        let mut r = Random(3);
+        for _ in 0..2000 {
+            let (own, records) = a_play(&mut r, 60);
+            let mut row = rows::fresh(own);
+            row[rows::START] = L - r.below(20) as u32;
+            row[rows::NUMBER] = L - r.below(20) as u32;
+            row[rows::VIEW_NUMBER] = L - r.below(20) as u32;
+            c.lend(&row);
+            for record in &records {
+                let row = c.words().to_vec();
+                let record = some_record(&mut r, &row, record);
+                c.hand(&record, ROOM);
+            }
+        }
+    });
+
+    t.case("words, outputs and records of every length", |c| {
+        let mut r = Random(4);
+        let (own, records) = a_play(&mut r, 100);
+        c.lend(&rows::fresh(own));
+        for record in &records[..50] {
+            c.hand(record, ROOM);
+        }
+        let row = c.words().to_vec();
+        for record in &records[50..] {
+            for words in 0..=WORDS + 75 {
+                let mut lent = row.clone();
+                lent.resize(words, 0);
+                c.lend(&lent);
+                c.hand(record, ROOM);
+            }
+            for room in 0..=2 * ROOM {
+                c.lend(&row);
+                c.hand(record, room);
+            }
+            for length in 0..=200 {
+                let mut part = record.clone();
+                part.resize(length, 0);
+                c.lend(&row);
+                c.hand(&part, ROOM);
+            }
+        }
+    });
+
+    t.case("random words and random bytes", |c| {
+        let mut r = Random(5);
+        for _ in 0..50_000 {
+            let mut row: Vec<u32> = (0..WORDS).map(|_| r.next() as u32 % (2 * L)).collect();
+            if r.below(4) != 0 {
+                row[rows::OWN] %= 16;
+                row[rows::MODE] %= 3;
+                for o in 0..16 {
+                    row[rows::slot(o)] %= 2;
+                }
+                for word in &mut row[rows::START..] {
+                    *word %= L + 1;
+                }
+            }
+            let record = match r.below(3) {
+                0 => r.bytes(18),
+                1 => report(r.next(), r.next()),
+                _ => some_record(&mut r, &row, &[]),
+            };
+            c.lend(&row);
+            c.hand(&record, ROOM);
+        }
+    });
+
+    let reached = t.reached.0;
+    println!("answers: {}", (0..14).map(|n| format!("{n}: {}", reached[n])).collect::<Vec<_>>().join(", "));
+    t.check("each answer but 1 was reached", (0..14).all(|n| n == 1 || reached[n] > 0));
+    println!("step: {} inputs compared", tally.inputs);
+    println!("{} passed, {} failed", tally.passed, tally.failed);
+    std::process::exit((tally.failed != 0) as i32);
+}
