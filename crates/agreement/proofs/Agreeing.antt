@@ -1,6 +1,6 @@
 -- The agreement test office by office, and by its cases.
 use mathlib.Core.Path.{_≡_, refl, sym, ap, _∙_}
-use mathlib.Core.Bool.{Bool, true, false, _&&_, _||_, not}
+use mathlib.Core.Bool.{Bool, true, false, _&&_, _||_, not, and-true}
 use Prim.Native.Nat.{ℕ}
 use lib.Dec.{eqb}
 use Rattle.laws.specs.Fin.{allb}
@@ -11,10 +11,6 @@ use Rattle.rules.specs.State.{Mode, None, Fast, Slow, State, slow, kindOf, stor
 use Rattle.rules.specs.Rules.{view, nothingWritten, agreesKind, agreesIn, isNone, agreed, viewOf, concluded, agreementTest}
 use Rattle.parts.proofs.Dids.{one}
 use Rattle.agreement.specs.Agreement.{agreesBy, failsAt, agreesAt}
-
-and-true : (a : Bool) → a && true ≡ a
-and-true true = refl
-and-true false = refl
 
 agrees-by : (s : State) (m : Mode) → s .mode ≡ m → (m ≡ None → ⊥) → (o : ℕ)
     → agreesIn m s o ≡ agreesBy (kindOf m) (s .number) (s .net .bits) (storedAt s o)

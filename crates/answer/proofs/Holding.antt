@@ -6,18 +6,15 @@ use Prim.Native.Nat.{ℕ}
 use native.Mathlib.Omega.{arith}
 use lib.ListN.{length}
 use lib.Dec.{eqb, leb}
-use borrow.Author.Tests.{eq-eqb, le-leb, eqb-true}
-use Rattle.laws.specs.Fin.{allb}
-use Rattle.laws.proofs.Fin.{and-in, allb-in}
-use Rattle.laws.specs.Tab.{tab}
-use Rattle.rules.specs.Rules.{fresh}
-use Rattle.rules.specs.Refusals.{slotWithin, wellFormed, madeOf, stepOf}
-use Rattle.rules.proofs.Steps.{step-well}
-use Rattle.row.specs.Row.{Row, rowLength, stateOf, isRow}
+use borrow.Author.Tests.{eq-eqb, eqb-true, leb-true}
+use Rattle.rules.specs.Refusals.{wellFormed, madeOf, stepOf}
+use Rattle.rules.proofs.Steps.{fresh-well, step-well}
+use Rattle.row.specs.Row.{Row, rowLength, stateOf}
 use Rattle.row.proofs.Low.{is-row}
-use Rattle.step.specs.Step.{MadeRow, inRow, stepRow, Stepped, freshRow}
+use Rattle.fresh.specs.Fresh.{MadeRow, freshRow}
+use Rattle.step.specs.Step.{inRow, stepRow, Stepped}
 use Rattle.lines.specs.Lines.{textOf}
-use Rattle.answer.specs.Held.{Sound, Handed, Made}
+use Rattle.answer.specs.Held.{Sound, Handed, StateMade}
 
 on-row : (ws b : List ℕ) (room : ℕ) → Row ws → stepRow ws b room ≡ inRow ws (stepOf (stateOf ws) b room)
 unfolding stepRow
@@ -39,17 +36,12 @@ handed ws b {o} {o′} {ws′} s t h =
       same-out = t .same-out ∙ rw e;
     }
 
--- a fresh state passes check 2
-fresh-well : (o : ℕ) → leb o 15 ≡ true → wellFormed (fresh o) ≡ true
-unfolding wellFormed slotWithin fresh allb tab
-fresh-well o h = rw h
-
 made-well : (office : ℕ) → madeOf office .refusal ≡ 0 → wellFormed (madeOf office .state) ≡ true
 unfolding madeOf
 made-well office h = go (leb office 15) refl
   where
     go : (t : Bool) → leb office 15 ≡ t → wellFormed (madeOf office .state) ≡ true
-    go true e = rw e (fresh-well office e)
+    go true e = rw e (let l = leb-true office 15 e in fresh-well office (omega arith))
     go false e = absurd (let z = rw e at h in omega arith)
 
 fresh-refusal : (office : ℕ) (ws : List ℕ) → length ws ≡ rowLength → freshRow office ws .refusal ≡ madeOf office .refusal
@@ -59,7 +51,7 @@ fresh-refusal office ws l = rw (eq-eqb (length ws) rowLength l)
 -- the words of a state that is made hold it
 pub made : (office : ℕ) {n : ℕ} (ws : List ℕ) {ws′ : List ℕ} → length ws ≡ rowLength
     → _≡_ {A = MadeRow} (record { refusal = n; words = ws′ }) (freshRow office ws)
-    → Row (freshRow office ws .words) × (stateOf (freshRow office ws .words) ≡ madeOf office .state) → Made office (eqb n 0) ws′
+    → Row (freshRow office ws .words) × (stateOf (freshRow office ws .words) ≡ madeOf office .state) → StateMade office (eqb n 0) ws′
 unfolding textOf
 made office {n} ws {ws′} l e h =
     let w : ws′ ≡ freshRow office ws .words = ap (λ (m : MadeRow). m .words) e in

@@ -2,8 +2,9 @@
 use mathlib.Core.Path.{_≡_}
 use mathlib.Core.Bool.{Bool}
 use mathlib.Core.List.{List, _++_}
+use lib.ListN.{length}
 use Prim.Native.Nat.{ℕ, _+_, _≤_}
-use Rattle.rules.specs.Refusals.{Result}
+use Rattle.rules.specs.Refusals.{stepOf}
 use Rattle.row.specs.Row.{stateOf}
 use Rattle.lines.specs.Lines.{lineFor, goesOn}
 use Rattle.answer.specs.Held.{Sound}
@@ -11,14 +12,14 @@ use Rattle.buffers.specs.Place.{unwrittenOf}
 use Rattle.buffers.specs.declared.Place.{Place}
 use Rattle.answer.specs.declared.Acted.{Acted}
 
--- a record of n bytes is answered by q: its line stands behind what is unwritten
-pub record Answered (traced : Bool) (q : Result) (p : Place) (n : ℕ) (o : List ℕ) (r : Acted) (ws′ o′ : List ℕ) : Type 0 where
+-- the record b is answered by the step, with an output of 182 bytes: its line stands behind what is unwritten
+pub record Answered (traced : Bool) (ws : List ℕ) (p : Place) (b o : List ℕ) (r : Acted) (ws′ o′ : List ℕ) : Type 0 where
   pub sound : Sound ws′
-  pub state : stateOf ws′ ≡ q .state
-  pub more : r .more ≡ goesOn (q .refusal)
+  pub state : stateOf ws′ ≡ stepOf (stateOf ws) b 182 .state
+  pub more : r .more ≡ goesOn (stepOf (stateOf ws) b 182 .refusal)
   pub ended : r .place .ended ≡ p .ended
-  pub at : r .place .at ≡ p .at + n
+  pub at : r .place .at ≡ p .at + length b
   pub end : r .place .end ≡ p .end
   pub filled : r .place .filled ≤ 65536
   pub number : r .place .number ≡ p .number + 1
-  pub line : unwrittenOf (r .place) o′ ≡ unwrittenOf p o ++ lineFor traced (p .number + 1) q
+  pub line : unwrittenOf (r .place) o′ ≡ unwrittenOf p o ++ lineFor traced (p .number + 1) (stepOf (stateOf ws) b 182)

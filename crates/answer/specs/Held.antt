@@ -23,6 +23,6 @@ pub record Handed (q : Result) (o : List ℕ) (refusal written : ℕ) (ws′ o�
   pub same-out : o′ ≡ sets o 0 (allBytes (q .written))
 
 -- the first byte of the input makes a state, or else the one line is due
-pub record Made (office : ℕ) (made : Bool) (ws′ : List ℕ) : Type 0 where
+pub record StateMade (office : ℕ) (made : Bool) (ws′ : List ℕ) : Type 0 where
   pub sound : made ≡ true → Sound ws′
   pub text : (traced : Bool) (f : List ℕ) → textOf traced (office ∷ f) ≡ ifb made (linesOf traced (stateOf ws′) 0 f) noOffice

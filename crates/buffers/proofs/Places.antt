@@ -2,16 +2,16 @@
 use mathlib.Core.Path.{_≡_, refl, sym, ap, _∙_}
 use mathlib.Core.Bool.{Bool, true, false}
 use mathlib.Core.Logic.{_⊎_, inl, inr, ⊎-elim}
-use mathlib.Core.List.{List, [], _∷_, _++_}
+use mathlib.Core.List.{List, [], _++_}
 use Prim.Native.Nat.{ℕ, _+_, _-_, _≤_, _<_}
 use native.Mathlib.Omega.{arith}
-use native.Mathlib.Numerals.{add-one}
 use lib.ListN.{length, getD, set, take, drop, length-drop, length-append}
-use lib.Seq.{sets, sets-eq, length-take-le, getD-drop, take-suc, take-at, drop-at, take-add, drop-drop, take-append-add, take-append-le}
+use lib.Seq.{sets, sets-eq, length-take-le, getD-drop, take-at, drop-at, drop-drop, take-append-add, take-append-le}
 use lib.Dec.{eqb, ltb, leb}
 use borrow.Author.Tests.{eqb-true, eqb-false, ltb-true, ltb-false, leb-true, lt-ltb, le-ltb}
 use Rattle.laws.proofs.Fin.{true-false}
-use Rattle.laws.proofs.Big.{sets-append, sets-front, sets-rest}
+use Rattle.laws.proofs.Big.{sets-front, sets-rest}
+use Rattle.laws.proofs.Seqs.{store-turn, drop-take}
 use Rattle.run_reader.specs.Run.{runCheck}
 use Rattle.text.specs.Put.{Put}
 use Rattle.buffers.specs.Place.{Within, windowOf, waitsOf, roomFor, Sent, Refilled}
@@ -35,23 +35,13 @@ front-more o at i h =
     ap (λ (k : ℕ). getD p k 0) w ∙ sym (getD-drop i p at 0) ∙ ap (λ (l : List ℕ). getD l at 0) r ∙ getD-drop i o at 0
     ∙ ap (λ (k : ℕ). getD o k 0) (sym w) ∙ sym (getD-drop at o i 0) in
     let m : i < length b = simp length-drop (omega arith) in
-    rw e (rw z at (put-more o 0 i b m))
-  where
-    put-more : (o : List ℕ) (at i : ℕ) (b : List ℕ) → i < length b
-        → set (sets o at (take i b)) (at + i) (getD b i 0) ≡ sets o at (take (i + 1) b)
-    put-more o at i b h = sym
-        (rw (add-one i, take-suc b i 0)
-        (sets-append o at (take i b) (getD b i 0 ∷ [])
-        ∙ ap (λ (k : ℕ). set (sets o at (take i b)) (at + k) (getD b i 0)) (length-take-le i b (omega arith))))
+    rw e (rw z at (store-turn o b 0 i 0 m))
 
 pub window-length : (p : Place) (i : List ℕ) → p .at ≤ p .end → p .end ≤ length i → length (windowOf p i) ≡ p .end - p .at
 unfolding windowOf
 window-length p i h l = length-take-le (p .end - p .at) (drop (p .at) i) (simp length-drop (omega arith))
 
 -- what is left of a window
-pub drop-take : (k m : ℕ) (l : List ℕ) → k ≤ length l → drop k (take (k + m) l) ≡ take m (drop k l)
-drop-take k m l h = rw (take-add k m l) (drop-at (take k l) (take m (drop k l)) k (length-take-le k l h))
-
 pub window-left : (p p′ : Place) (i a b : List ℕ) → p .at ≤ p .end → p .end ≤ length i → windowOf p i ≡ a ++ b
     → p′ .at ≡ p .at + length a → p′ .end ≡ p .end → windowOf p′ i ≡ b
 unfolding windowOf

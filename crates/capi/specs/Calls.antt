@@ -12,12 +12,12 @@ pub record Called : Type 0 where
   pub bytes : List ℕ
 
 -- 256 times the bytes written, and the refusal or 0
-abbrev pub answerOf : ℕ → ℕ → ℕ
-answerOf written refusal = 256 * written + refusal
+abbrev pub answerNumber : ℕ → ℕ → ℕ
+answerNumber written refusal = 256 * written + refusal
 
 -- the bytes written stand at the front of the output
 abbrev pub calledOf : List ℕ → RowResult → Called
-calledOf o q = record { answer = answerOf (size (q .written)) (q .refusal); words = q .words; bytes = sets o 0 (allBytes (q .written)) }
+calledOf o q = record { answer = answerNumber (size (q .written)) (q .refusal); words = q .words; bytes = sets o 0 (allBytes (q .written)) }
 
 unfoldable pub callOf : List ℕ → List ℕ → List ℕ → Called
 callOf ws b o = calledOf o (stepRow ws b (length o))

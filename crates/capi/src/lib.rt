@@ -4,8 +4,8 @@ ghost use Prim.Native.Nat.{_≤_};
 ghost use Rattle.records.specs.Layout.{checkOf};
 ghost use Rattle.seats.specs.Seats.{officesOf};
 ghost use Rattle.rules.specs.Refusals.{fullRoom};
-ghost use Rattle.step.specs.Step.{freshRow};
-ghost use Rattle.capi.specs.Calls.{answerOf, callOf};
+ghost use Rattle.fresh.specs.Fresh.{freshRow};
+ghost use Rattle.capi.specs.Calls.{answerNumber, callOf};
 use seats::SeatSet;
 
 // The number by checks 4 and 5 for some bytes; 0 where they pass both.
@@ -40,7 +40,7 @@ fn wide(x: u8) -> u32
 
 fn answer(written: usize, refusal: u8) -> u32
     requires { ⌜ written ≤ fullRoom ⌝ }
-    ensures { λ r. ⌜ r ≡ answerOf written refusal ⌝ }
+    ensures { λ r. ⌜ r ≡ answerNumber written refusal ⌝ }
 {
     256 * (written as u32) + wide(refusal)
 }

@@ -5,16 +5,14 @@ use records::SLOW;
 use row::LIMIT;
 use seats::SeatSet;
 ghost use mathlib.Core.Path.{_≡_};
-ghost use mathlib.Core.Bool.{_||_, _&&_, not, true};
-ghost use Prim.Native.Nat.{_<_, _≤_};
-ghost use lib.Dec.{eqb, ltb, leb};
+ghost use mathlib.Core.Bool.{_&&_, not};
+ghost use Prim.Native.Nat.{_<_};
+ghost use lib.Dec.{eqb};
 ghost use lib.ListN.{getD};
 ghost use Rattle.laws.specs.Fin.{anyb};
-ghost use Rattle.laws.specs.Upd.{ifb};
 ghost use Rattle.seats.specs.Seats.{serves};
-ghost use Rattle.rules.specs.State.{fast, slow};
-ghost use Rattle.rules.specs.Refusals.{limit, wrongNumber, strayUsed, firstOf, formChecks, notAbove, usedAhead, proposalChecks, madeOf};
-ghost use Rattle.row.specs.Row.{Row, stateOf, soundRow, lowRow};
+ghost use Rattle.rules.specs.Refusals.{wrongNumber, firstOf, formChecks, proposalChecks, madeOf};
+ghost use Rattle.row.specs.Row.{Row, stateOf, lowRow};
 ghost use Rattle.checks.specs.Checks.{unready, madeWithin};
 
 // The room that every event has enough of.
@@ -27,24 +25,15 @@ pub fn office(office: u8) -> u8
     if office <= 15 { 0 } else { 1 }
 }
 
-// Check 2; a row whose numbers are all low was looked at already.
-fn is_state(state: &[u32], low: bool) -> bool
-    requires { ⌜ low ≡ lowRow (now state) ⌝ }
-    ensures { λ r. ⌜ r ≡ soundRow (now (state .entry)) ⌝ }
-{
-    if low {
-        return true;
-    }
-    row_checks::is_sound(state)
-}
-
-// Checks 2 and 3.
+// Checks 2 and 3; a row whose numbers are all low was looked at already.
 pub fn ready(state: &[u32], low: bool, room: usize) -> u8
     requires { ⌜ low ≡ lowRow (now state) ⌝ }
     ensures { λ r. ⌜ r ≡ unready (now (state .entry)) room ⌝ }
 {
-    if !is_state(state, low) {
-        return 2;
+    if !low {
+        if !row_checks::is_sound(state) {
+            return 2;
+        }
     }
     if room < ROOM {
         return 3;
@@ -52,51 +41,21 @@ pub fn ready(state: &[u32], low: bool, room: usize) -> u8
     0
 }
 
-fn wrong_sender(own: u8, sender: u8) -> bool
-    ensures { λ r. ⌜ r ≡ ltb 15 sender || eqb sender own ⌝ }
+// Check 8.
+fn wrong_number(p: Proposal) -> bool
+    ensures { λ r. ⌜ r ≡ wrongNumber p ⌝ }
 {
-    (15 < sender) | (sender == own)
-}
-
-fn wrong_kind(kind: u8) -> bool
-    ensures { λ r. ⌜ r ≡ not (eqb kind fast || eqb kind slow) ⌝ }
-{
-    match kind {
-        FAST => false,
-        SLOW => false,
-        _ => true,
-    }
-}
-
-// A used number is above L.
-fn used_above(used: [u32; 16]) -> bool
-    ensures { λ r. ⌜ r ≡ anyb 16 (λ o. ltb limit (getD used o 0)) ⌝ }
-{
+    let used = p.used;
     let mut above = false;
     let mut o: usize = 0;
     while o < 16 {
         above = (LIMIT < used[o]) | above;
         o += 1;
     }
-    above
+    (p.start == 0) | (LIMIT < p.start) | (p.number == 0) | (LIMIT < p.number) | above
 }
 
-fn wrong_number(p: Proposal) -> bool
-    ensures { λ r. ⌜ r ≡ wrongNumber p ⌝ }
-{
-    if (p.start == 0) | (LIMIT < p.start) | (p.number == 0) | (LIMIT < p.number) {
-        return true;
-    }
-    let used = p.used;
-    used_above(used)
-}
-
-fn without_seat(own: u8, sender: u8, members: SeatSet) -> bool
-    ensures { λ r. ⌜ r ≡ not (serves (members .bits) sender) || not (serves (members .bits) own) ⌝ }
-{
-    !members.serves(sender) | !members.serves(own)
-}
-
+// Check 10.
 fn stray_used(members: SeatSet, used: [u32; 16]) -> bool
     ensures { λ r. ⌜ r ≡ anyb 16 (λ o. not (serves (members .bits) o) && not (eqb (getD used o 0) 0)) ⌝ }
 {
@@ -113,21 +72,20 @@ fn stray_used(members: SeatSet, used: [u32; 16]) -> bool
 fn form(own: u8, p: Proposal) -> u8
     ensures { λ r. ⌜ r ≡ firstOf (formChecks own p) ⌝ }
 {
-    let members = p.members;
-    if wrong_sender(own, p.sender) {
+    if (15 < p.sender) | (p.sender == own) {
         return 6;
     }
-    if wrong_kind(p.kind) {
+    if (p.kind != FAST) & (p.kind != SLOW) {
         return 7;
     }
     if wrong_number(p) {
         return 8;
     }
-    if without_seat(own, p.sender, members) {
+    if !p.members.serves(p.sender) | !p.members.serves(own) {
         return 9;
     }
     let used = p.used;
-    if stray_used(members, used) {
+    if stray_used(p.members, used) {
         return 10;
     }
     0

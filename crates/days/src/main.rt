@@ -7,7 +7,6 @@ use make::FAST;
 use make::L;
 use make::SLOW;
 use make::WORDS;
-use make::high;
 use make::proposal;
 use make::report;
 use states::after;
@@ -15,10 +14,13 @@ use states::after_b;
 use states::after_c;
 use states::after_g;
 use states::fresh;
+use states::with_word;
 use tries::accepted;
-use tries::refused;
+use tries::refused_fresh;
+use tries::refused_into;
 use tries::refused_proposal;
 use tries::refused_short;
+use tries::refused_word;
 use tries::same_words;
 use tries::say;
 
@@ -28,27 +30,32 @@ mod states;
 mod tries;
 
 fn day_m() {
-    let both = report(0x01, 0x01);
     accepted(
         b"M, a seat both joining and leaving",
         fresh(),
-        &both,
+        &report(0x01, 0x01),
         0,
         &nothing(),
     );
+}
+
+fn after_m() {
     accepted(
         b"M, then a seat of another office alone",
-        after(fresh(), &both),
+        after(fresh(), &report(0x01, 0x01)),
         &report(0x10, 0),
         0,
         &nothing(),
     );
 }
 
-fn offices() {
+fn office_15() {
     let mut last = [170u32; WORDS];
     let made = step::fresh(15, &mut last);
     say(b"office 15 is made", made == 0 && last[0] == 15);
+}
+
+fn office_16() {
     let mut none = [170u32; WORDS];
     let refusal = step::fresh(16, &mut none);
     say(
@@ -57,13 +64,17 @@ fn offices() {
     );
 }
 
-fn rows() {
+fn state_in_424() {
     let mut short = [170u32; 424];
     let refusal = step::fresh(0, &mut short);
     say(
         b"a state in 424 words gets 2",
         refusal == 2 && short[0] == 170 && short[423] == 170,
     );
+}
+
+fn record_on_424() {
+    let mut short = [170u32; 424];
     let mut out = nothing();
     let a = step::step(&mut short, &report(0x01, 0), &mut out);
     say(
@@ -72,91 +83,80 @@ fn rows() {
     );
 }
 
-fn outputs() {
-    let mut row = fresh();
-    let mut short = [170u8; 181];
-    let a = step::step(&mut row, &report(0x01, 0), &mut short);
-    say(
+fn output_of_181() {
+    let mut out = [170u8; 181];
+    refused_into(
         b"an output of 181 bytes gets 3",
-        a.refusal == 3 && a.written == 0 && check::same(&short, &[170u8; 181]),
+        fresh(),
+        &report(0x01, 0),
+        &mut out,
+        3,
     );
-    let mut full = nothing();
-    let mut stored = after(fresh(), &proposal(SLOW, 1, 5, 0, 0));
-    let b = step::step(&mut stored, &report(0x11, 0), &mut full);
+}
+
+fn output_of_182() {
+    let mut out = nothing();
+    let mut row = after(fresh(), &proposal(SLOW, 1, 5, 0, 0));
+    let a = step::step(&mut row, &report(0x11, 0), &mut out);
     say(
         b"an output of 182 bytes serves",
-        b.refusal == 0 && b.written == 182,
+        a.refusal == 0 && a.written == 182,
     );
 }
 
 fn lengths() {
-    refused(
+    refused_fresh(
         b"a report of 17 bytes gets 5",
-        fresh(),
         b"NE\x00\x00\x00\x00\x00\x00\x00\x01\x00\x00\x00\x00\x00\x00\x00",
         5,
     );
-    refused(
+    refused_fresh(
         b"a report of 19 bytes gets 5",
-        fresh(),
         b"NE\x00\x00\x00\x00\x00\x00\x00\x01\x00\x00\x00\x00\x00\x00\x00\x00\x00",
         5,
     );
 }
 
 fn no_records() {
-    refused(b"an empty record gets 4", fresh(), &[], 4);
-    refused(b"one byte gets 4", fresh(), b"N", 4);
+    refused_fresh(b"an empty record gets 4", &[], 4);
+    refused_fresh(b"one byte gets 4", b"N", 4);
 }
 
 // A number above L in the state.
 fn high_numbers() {
-    let joins = report(0x01, 0);
-    refused(
+    refused_word(
         b"a proposal number above L in the state gets 2",
-        high(fresh(), make::NUMBER, L + 1),
-        &joins,
+        make::NUMBER,
+        L + 1,
         2,
     );
-    refused(
+    refused_word(
         b"L itself passes, and the next number gets 13",
-        high(fresh(), make::NUMBER, L),
-        &joins,
+        make::NUMBER,
+        L,
         13,
     );
-    refused(
+    refused_word(
         b"a number last accepted above L gets 2",
-        high(fresh(), make::ACCEPTED_15, L + 1),
-        &joins,
+        make::ACCEPTED_15,
+        L + 1,
         2,
     );
 }
 
 fn own_office() {
-    let stray = high(fresh(), make::OWN, 16);
-    refused(b"an own office above 15 gets 2", stray, &report(0x01, 0), 2);
-    refused_short(b"2 before 3 and 4", stray, &[], 2);
+    refused_word(b"an own office above 15 gets 2", make::OWN, 16, 2);
+    refused_short(b"2 before 3 and 4", with_word(make::OWN, 16), &[], 2);
 }
 
 // Words that are no state, and a number that does not count.
 fn other_words() {
-    let joins = report(0x01, 0);
-    refused(
-        b"a mode of 3 gets 2",
-        high(fresh(), make::MODE, 3),
-        &joins,
-        2,
-    );
-    refused(
-        b"a presence of 2 gets 2",
-        high(fresh(), make::PRESENT_15, 2),
-        &joins,
-        2,
-    );
+    refused_word(b"a mode of 3 gets 2", make::MODE, 3, 2);
+    refused_word(b"a presence of 2 gets 2", make::PRESENT_15, 2, 2);
     refused_short(
         b"a number above L behind an empty slot passes check 2",
-        high(fresh(), make::STORED_NUMBER_15, L + 1),
-        &joins,
+        with_word(make::STORED_NUMBER_15, L + 1),
+        &report(0x01, 0),
         3,
     );
 }
@@ -164,8 +164,8 @@ fn other_words() {
 // Each proposal is wrong in all that comes after the number it gets.
 fn order_of_forms() {
     refused_short(b"3 before 4", fresh(), b"??", 3);
-    refused(b"4 before 5", fresh(), b"??", 4);
-    refused(b"5 before 6", fresh(), b"PR\x10\x00", 5);
+    refused_fresh(b"4 before 5", b"??", 4);
+    refused_fresh(b"5 before 6", b"PR\x10\x00", 5);
 }
 
 fn order_6_7() {
@@ -257,9 +257,13 @@ fn rounds_after_c() {
 
 fn main() {
     day_m();
-    offices();
-    rows();
-    outputs();
+    after_m();
+    office_15();
+    office_16();
+    state_in_424();
+    record_on_424();
+    output_of_181();
+    output_of_182();
     lengths();
     no_records();
     high_numbers();

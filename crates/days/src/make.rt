@@ -1,8 +1,7 @@
-// Records that are handed to office 0, as bytes, and states with a word changed, by docs/LAYOUT.md.
+// Records that are handed to office 0, as bytes, and the places of a state by docs/LAYOUT.md.
 use records::Proposal;
 use records::Report;
 use seats::SeatSet;
-ghost use Prim.Native.Nat.{_<_};
 
 pub const FAST: u8 = 1;
 
@@ -23,14 +22,6 @@ pub const NUMBER: usize = 87;
 pub const ACCEPTED_15: usize = 120;
 
 pub const STORED_NUMBER_15: usize = 408;
-
-pub fn high(state: [u32; WORDS], place: usize, word: u32) -> [u32; WORDS]
-    requires { ⌜ place < 425 ⌝ }
-{
-    let mut row = state;
-    row[place] = word;
-    row
-}
 
 pub fn report(joining: u64, leaving: u64) -> [u8; 18] {
     let mut bytes = [0u8; 18];

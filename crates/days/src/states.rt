@@ -4,10 +4,19 @@ use crate::make::FAST;
 use crate::make::WORDS;
 use crate::make::proposal;
 use crate::make::report;
+ghost use Prim.Native.Nat.{_<_};
 
 pub fn fresh() -> [u32; WORDS] {
     let mut row = [0u32; WORDS];
     step::fresh(0, &mut row);
+    row
+}
+
+pub fn with_word(place: usize, word: u32) -> [u32; WORDS]
+    requires { ⌜ place < 425 ⌝ }
+{
+    let mut row = fresh();
+    row[place] = word;
     row
 }
 

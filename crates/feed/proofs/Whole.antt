@@ -10,7 +10,7 @@ use Rattle.laws.proofs.Fin.{true-false}
 use Rattle.laws.specs.Upd.{ifb}
 use Rattle.row.specs.Row.{stateOf}
 use Rattle.lines.specs.Lines.{linesOf, textOf}
-use Rattle.answer.specs.Held.{Sound, Made}
+use Rattle.answer.specs.Held.{Sound, StateMade}
 use Rattle.buffers.specs.Place.{windowOf, unwrittenOf}
 use Rattle.turn.specs.Turn.{Turns}
 use Rattle.feed.specs.Whole.{Stand, Run, begun, turned, Ran}
@@ -42,7 +42,7 @@ run-text {traced} {ws = ws} (turned {n} {input} {output} {a} sent {more} {b} r k
     later h = let z = k .end h in rw (z .1, e (z .0))
 
 -- where the program stops, what was written and what is unwritten are the whole text for the input, whatever of it is unread
-pub whole-text : {traced : Bool} {office n : ℕ} {ws input output : List ℕ} {b : Stand} → Made office true ws → Run traced ws n input output false b
+pub whole-text : {traced : Bool} {office n : ℕ} {ws input output : List ℕ} {b : Stand} → StateMade office true ws → Run traced ws n input output false b
     → (f : List ℕ) → (b .ended ≡ true → f ≡ []) → textOf traced (office ∷ (input ++ f)) ≡ output ++ b .unwritten
 whole-text {traced} {office} {ws} {input} {output} {b} m r f e =
     m .text traced (input ++ f) ∙ run-text r f e ∙ rw (append-nil (b .unwritten))

@@ -9,7 +9,7 @@ use lib.Seq.{sets, sets-eq, getD-append-add, take-suc, length-take-le, take-appe
 use native.Mathlib.Numerals.{add-one}
 use Rattle.laws.specs.Tab.{tab}
 use Rattle.laws.proofs.Tab.{filled}
-use Rattle.laws.proofs.Seqs.{sets-append as joined}
+use Rattle.laws.proofs.Seqs.{sets-append}
 use Rattle.laws.specs.Big.{bytes4, big4, bytes8, big8, Below, fourAt, bytesAll}
 
 -- omega does better with the quotients as variables: no division is in sight here
@@ -61,10 +61,6 @@ module _ (b : List ℕ) (h : Below 256 b) where
   pub big8-back : (at : ℕ) → bytes8 (big8 b at) ≡ fourAt b at ++ fourAt b (at + 4)
   big8-back at =
       made8 (big4 b at) (big4 b (at + 4)) (big4-below (at + 4)) ∙ both (big4-back at) (big4-back (at + 4))
-
--- writes one after another are one write
-pub sets-append : (l : List ℕ) (i : ℕ) (a b : List ℕ) → sets l i (a ++ b) ≡ sets (sets l i a) (i + length a) b
-sets-append l i a b = sym (joined a b l i)
 
 -- p is o with the bytes a written at a place
 pub record Wrote (o : List ℕ) (at : ℕ) (a p : List ℕ) : Type 0 where
@@ -142,9 +138,6 @@ bytes-back (suc n) at b h =
 
     one : (k : ℕ) → at + 4 + k ≡ at + suc (suc (suc (suc k)))
     one k = omega arith
-
-pub listed : (b : List ℕ) → b ≡ tab (length b) (λ k. getD b k 0)
-listed b = filled (length b) (λ k. getD b k 0) 0 b refl (λ k lt. refl)
 
 pub tab-below : (m n : ℕ) (f : ℕ → ℕ) → 0 < m → ((k : ℕ) → f k < m) → Below m (tab n f)
 unfolding tab

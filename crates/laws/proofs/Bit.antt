@@ -4,7 +4,7 @@ use Prim.Native.Nat.{ℕ, zero, suc, _+_, _-_, _*_, _/_, _%_, _^_, _≤_, _<_, m
 use native.Mathlib.Nat.{pow-suc, div-div-eq-div-mul, mul-comm}
 use native.Mathlib.Omega.{arith}
 use lib.Arith.{bin-ind}
-use lib.Bits.{bitOr, bitAnd, or-step, and-step, shifted-half, shifted-even}
+use lib.Bits.{bitOr, bitAnd, or-step, and-step, shifted-half, shifted-even, or-comm, or-add-and, and-le-r}
 use lib.Pow.{shl-shr}
 use Rattle.laws.specs.Bit.{bit}
 
@@ -112,3 +112,7 @@ unfolding bit
 bit-shl-low zero x t h = absurd (omega arith)
 bit-shl-low (suc k) x zero h = shifted-even x k
 bit-shl-low (suc k) x (suc t) h = ap (λ (n : ℕ). bit n t) (shifted-half x k) ∙ bit-shl-low k x t (omega arith)
+
+-- a number is at most what it makes with another
+pub or-above : (a b : ℕ) → b ≤ bitOr a b
+or-above a b = let e = or-add-and b a in let l = and-le-r b a in let c = or-comm a b in omega arith

@@ -19,6 +19,10 @@ if-cases P false a b f g = g refl
 pub if-le : (t : Bool) (a b c : ℕ) → a ≤ c → b ≤ c → ifb t a b ≤ c
 if-le t a b c x y = if-cases (λ (v : ℕ). v ≤ c) t a b (λ _. x) (λ _. y)
 
+pub if-same : {A : Type 0} (t : Bool) (a : A) → ifb t a a ≡ a
+if-same true a = refl
+if-same false a = refl
+
 -- what both and neither say of the parts
 pub and-l : (a b : Bool) → a && b ≡ true → a ≡ true
 and-l true b e = refl
@@ -44,6 +48,10 @@ pub or-out : (a b : Bool) → a ≡ false → b ≡ false → a || b ≡ false
 or-out true b e f = e
 or-out false b e f = f
 
+pub or-in : (a b : Bool) → b ≡ true → a || b ≡ true
+or-in true b e = refl
+or-in false b e = e
+
 pub or-cases : (a b : Bool) → a || b ≡ true → (a ≡ true) ⊎ (b ≡ true)
 or-cases true b e = inl refl
 or-cases false b e = inr e
@@ -64,6 +72,11 @@ pub allb-in : (n : ℕ) (p : ℕ → Bool) → ((k : ℕ) → k < n → p k ≡ 
 unfolding allb
 allb-in zero p h = refl
 allb-in (suc n) p h = and-in (p n) (allb n p) (h n (omega arith)) (allb-in n p (λ k l. h k (omega arith)))
+
+pub allb-ext : (n : ℕ) (p q : ℕ → Bool) → ((k : ℕ) → k < n → p k ≡ q k) → allb n p ≡ allb n q
+unfolding allb
+allb-ext zero p q h = refl
+allb-ext (suc n) p q h = let a = h n (omega arith) in let b = allb-ext n p q (λ k l. h k (omega arith)) in cc
 
 -- all or a counterexample
 pub all-or : (n : ℕ) (p : ℕ → Bool) → ((k : ℕ) → k < n → p k ≡ true) ⊎ ((k : ℕ) × (k < n) × (p k ≡ false))
@@ -191,6 +204,16 @@ pub sum-ext : (n : ℕ) (f g : ℕ → ℕ) → ((k : ℕ) → k < n → f k ≡
 unfolding sum
 sum-ext zero f g h = refl
 sum-ext (suc n) f g h = let a = h n (omega arith) in let b = sum-ext n f g (λ k lt. h k (omega arith)) in omega arith
+
+-- a sum is 0 only where each term is
+pub sum-zero : (n : ℕ) (f : ℕ → ℕ) → sum n f ≡ 0 → (k : ℕ) → k < n → f k ≡ 0
+unfolding sum
+sum-zero zero f e k lt = absurd (omega arith)
+sum-zero (suc n) f e k lt = go (ℕ-discrete k n) (sum-zero n f (omega arith) k)
+  where
+    go : Dec (k ≡ n) → (k < n → f k ≡ 0) → f k ≡ 0
+    go (yes q) ih = let a : f k ≡ f n = ap f q in omega arith
+    go (no q) ih = ih (omega arith)
 
 pub sum-upd : (n : ℕ) (f : ℕ → ℕ) (i v : ℕ) → i < n → sum n (upd f i v) + f i ≡ sum n f + v
 unfolding sum

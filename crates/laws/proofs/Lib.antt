@@ -2,6 +2,7 @@
 pub mod Big
 pub mod Bit
 pub mod Fin
+pub mod Grid
 pub mod Loops
 pub mod Seqs
 pub mod Tab

@@ -1,7 +1,8 @@
--- Runs of a step over a list, and induction from a list's end.
+-- Runs of a step over a list, and what holds of each entry.
 use mathlib.Core.Path.{_≡_, refl}
-use mathlib.Core.List.{List, [], _∷_, _++_, append-assoc, append-nil}
-use Rattle.laws.specs.Lists.{runs}
+use mathlib.Core.Logic.{_⊎_, inl, inr}
+use mathlib.Core.List.{List, [], _∷_, _++_, List·Memᴰ, List·Memᴰ·not-nil, List·Memᴰ·cases-cons}
+use Rattle.laws.specs.Lists.{runs, Every, none, more}
 
 module _ {W E : Type 0} (step : W → E → W) where
   pub runs-append : (w : W) (a b : List E) → runs step w (a ++ b) ≡ runs step (runs step w a) b
@@ -15,10 +16,26 @@ module _ {W E : Type 0} (step : W → E → W) where
   runs-keep P h w [] p = p
   runs-keep P h w (e ∷ es) p = runs-keep P h (step w e) es (h w e p)
 
--- induction on a list of events from its end
-pub snoc-ind : {E : Type 0} (P : List E → Type 0) → P [] → ((es : List E) (e : E) → P es → P (es ++ (e ∷ []))) → (es : List E) → P es
-snoc-ind {E} P z s es = go [] es z
-  where
-    go : (done es : List E) → P done → P (done ++ es)
-    go done [] p = rw append-nil p
-    go done (e ∷ es) p = rw (append-assoc done (e ∷ []) es) at (go (done ++ (e ∷ [])) es (s done e p))
+module _ {A : Type 0} {R : A → Type 0} where
+  pub every-append : {a b : List A} → Every R a → Every R b → Every R (a ++ b)
+  every-append none f = f
+  every-append (more r e) f = more r (every-append e f)
+
+  pub every-map : {S : A → Type 0} {l : List A} → ((a : A) → R a → S a) → Every R l → Every S l
+  every-map f none = none
+  every-map f (more r e) = more (f _ r) (every-map f e)
+
+  pub every-head : {a : A} {l : List A} → Every R (a ∷ l) → R a
+  every-head (more r e) = r
+
+  pub every-tail : {a : A} {l : List A} → Every R (a ∷ l) → Every R l
+  every-tail (more r e) = e
+
+  -- so of one that is in the list
+  pub every-at : {a : A} (l : List A) → Every R l → List·Memᴰ a l → R a
+  every-at [] e m = absurd (List·Memᴰ·not-nil m)
+  every-at {a} (b ∷ l) e m = go (every-at l (every-tail e)) (List·Memᴰ·cases-cons m)
+    where
+      go : (List·Memᴰ a l → R a) → (a ≡ b) ⊎ List·Memᴰ a l → R a
+      go later (inl q) = rw q (every-head e)
+      go later (inr q) = later q

@@ -1,10 +1,7 @@
--- Update at a place, of a function and of a list: one law by cases, one for what is kept.
-use mathlib.Core.Path.{_≡_, refl, sym, ap, fun-ext}
-use mathlib.Core.List.{List}
-use Prim.Native.Nat.{ℕ, _<_}
+-- A function changed at one place: there, elsewhere, and by cases.
+use mathlib.Core.Path.{_≡_, refl, ap}
+use Prim.Native.Nat.{ℕ}
 use native.Mathlib.Decide.{ℕ-discrete}
-use lib.ListN.{length, getD, set}
-use lib.Seq.{getD-set-same, getD-set-other}
 use lib.Dec.{eqb}
 use borrow.Author.Tests.{eq-eqb, ne-eqb}
 use Rattle.laws.specs.Upd.{ifb, upd}
@@ -31,19 +28,11 @@ module _ {A : Type 0} where
   unfolding upd
   upd-agree f g i v j e = ap (ifb (eqb j i) v) e
 
-  -- what the new value has in common with the old one at i, the whole keeps
-  pub upd-keeps : {B : Type 0} (g : A → B) (f : ℕ → A) (i : ℕ) (v : A) → g v ≡ g (f i) → (j : ℕ) → g (upd f i v j) ≡ g (f j)
-  upd-keeps g f i v e j = upd-cases (λ (k : ℕ) (a : A). g a ≡ g (f k)) f i v j e (λ n. refl)
-
-  -- the same of a list
-  pub set-cases {ℓ} : (d : A) (P : ℕ → A → Type ℓ) (l : List A) (i : ℕ) (v : A) (j : ℕ) → i < length l → P i v → ((j ≡ i → ⊥) → P j (getD l j d)) → P j (getD (set l i v) j d)
-  set-cases d P l i v j lt at other = go (ℕ-discrete j i)
-    where
-      go : Dec (j ≡ i) → P j (getD (set l i v) j d)
-      go (yes e) = rw (e, getD-set-same l i v d lt) at
-      go (no n) = rw (getD-set-other l i j v d n) (other n)
-
--- a list's entries as a function
-pub set-upd : {A : Type 0} (d : A) (l : List A) (i : ℕ) (v : A) → i < length l → _≡_ {A = ℕ → A} (λ j. getD (set l i v) j d) (upd (λ j. getD l j d) i v)
-set-upd d l i v lt = fun-ext (λ j. set-cases d (λ k a. a ≡ upd (λ j. getD l j d) i v k) l i v j lt
-    (sym (upd-same (λ j. getD l j d) i v)) (λ n. sym (upd-other (λ j. getD l j d) i v j n)))
+-- one place of two functions, by cases
+pub upd-both : {A B : Type 0} (P : A → B → Type 0) (f : ℕ → A) (g : ℕ → B) (i : ℕ) (v : A) (w : B) (j : ℕ) → P v w → P (f j) (g j)
+    → P (upd f i v j) (upd g i w j)
+upd-both P f g i v w j at other = go (ℕ-discrete j i)
+  where
+    go : Dec (j ≡ i) → P (upd f i v j) (upd g i w j)
+    go (yes e) = rw (e, upd-same f i v, upd-same g i w) at
+    go (no n) = rw (upd-other f i v j n, upd-other g i w j n) other

@@ -15,7 +15,7 @@ use Rattle.run_reader.proofs.Growing.{whole-stays, other-stays, other-check}
 use Rattle.records.specs.Layout.{checkOf}
 use Rattle.rules.specs.State.{State}
 use Rattle.rules.specs.Refusals.{wellFormed, unreadable, refused, madeOf, stepOf}
-use Rattle.lines.specs.Lines.{frontOf, behindOf, answerOf, lineFor, goesOn, linesIn, linesOf, textOf}
+use Rattle.lines.specs.Lines.{frontOf, behindOf, answerFor, lineFor, goesOn, linesIn, linesOf, textOf}
 
 module _ (b : List ℕ) where
   -- the record in front of a reading that does not end, and of one that does
@@ -67,10 +67,10 @@ module _ (traced : Bool) where
   enough zero j s n b h l = sym (lines-none j s n b (omega arith))
   enough (suc k) zero s n b h l = lines-none (suc k) s n b (omega arith)
   enough (suc k) (suc j) s n b h l = go (eqb (length b) 0) refl (λ p. let m = behind-shorter b p in
-      enough k j (answerOf s b .state) (n + 1) (behindOf b) (omega arith) (omega arith))
+      enough k j (answerFor s b .state) (n + 1) (behindOf b) (omega arith) (omega arith))
     where
       go : (t : Bool) → eqb (length b) 0 ≡ t
-          → (0 < length b → linesIn k traced (answerOf s b .state) (n + 1) (behindOf b) ≡ linesIn j traced (answerOf s b .state) (n + 1) (behindOf b))
+          → (0 < length b → linesIn k traced (answerFor s b .state) (n + 1) (behindOf b) ≡ linesIn j traced (answerFor s b .state) (n + 1) (behindOf b))
           → linesIn (suc k) traced s n b ≡ linesIn (suc j) traced s n b
       go true e ih = rw e
       go false e ih = rw (e, ih (pos-of-ne-zero (eqb-false (length b) 0 e)))
@@ -81,25 +81,25 @@ module _ (traced : Bool) where
 
   one-more : (k : ℕ) (s : State) (n : ℕ) (b : List ℕ) → 0 < length b
       → linesIn (suc k) traced s n b
-      ≡ lineFor traced (n + 1) (answerOf s b)
-      ++ ifb (goesOn (answerOf s b .refusal)) (linesIn k traced (answerOf s b .state) (n + 1) (behindOf b)) []
+      ≡ lineFor traced (n + 1) (answerFor s b)
+      ++ ifb (goesOn (answerFor s b .refusal)) (linesIn k traced (answerFor s b .state) (n + 1) (behindOf b)) []
   unfolding linesIn
   one-more k s n b h = rw (ne-eqb (length b) 0 (λ z. omega arith))
 
   -- the first record's line, then the rest where the program goes on
   pub lines-first : (s : State) (n : ℕ) (b : List ℕ) → 0 < length b
       → linesOf traced s n b
-      ≡ lineFor traced (n + 1) (answerOf s b)
-      ++ ifb (goesOn (answerOf s b .refusal)) (linesOf traced (answerOf s b .state) (n + 1) (behindOf b)) []
+      ≡ lineFor traced (n + 1) (answerFor s b)
+      ++ ifb (goesOn (answerFor s b .refusal)) (linesOf traced (answerFor s b .state) (n + 1) (behindOf b)) []
   unfolding linesOf
   lines-first s n b h = go (length b) refl
     where
       a : State
-      a = answerOf s b .state
+      a = answerFor s b .state
 
       go : (k : ℕ) → length b ≡ k
-          → linesIn (length b) traced s n b ≡ lineFor traced (n + 1) (answerOf s b)
-          ++ ifb (goesOn (answerOf s b .refusal)) (linesIn (length (behindOf b)) traced a (n + 1) (behindOf b)) []
+          → linesIn (length b) traced s n b ≡ lineFor traced (n + 1) (answerFor s b)
+          ++ ifb (goesOn (answerFor s b .refusal)) (linesIn (length (behindOf b)) traced a (n + 1) (behindOf b)) []
       go zero e = absurd (omega arith)
       go (suc k) e =
           let m = behind-shorter b h in
@@ -117,35 +117,35 @@ stops = refl
 
 -- What a record is answered is not changed by later bytes f: where it is whole, where no byte comes later, or where its mark is no
 -- record's, of which two bytes tell.
-pub data Settled (w f : List ℕ) : Type 0 where
-  entire : runCheck w ≡ 0 → Settled w f
-  last : f ≡ [] → Settled w f
-  marked : 2 ≤ length w → runCheck w ≡ 4 → Settled w f
+pub data Decided (w f : List ℕ) : Type 0 where
+  entire : runCheck w ≡ 0 → Decided w f
+  last : f ≡ [] → Decided w f
+  marked : 2 ≤ length w → runCheck w ≡ 4 → Decided w f
 
 module _ (traced : Bool) (s : State) (n : ℕ) (well : wellFormed s ≡ true) (w f : List ℕ) (h : 0 < length w) where
   abbrev FirstLine : Type 0
-  FirstLine = linesOf traced s n (w ++ f) ≡ lineFor traced (n + 1) (answerOf s w)
-      ++ ifb (goesOn (answerOf s w .refusal)) (linesOf traced (answerOf s w .state) (n + 1) (behindOf w ++ f)) []
+  FirstLine = linesOf traced s n (w ++ f) ≡ lineFor traced (n + 1) (answerFor s w)
+      ++ ifb (goesOn (answerFor s w .refusal)) (linesOf traced (answerFor s w .state) (n + 1) (behindOf w ++ f)) []
 
-  first : linesOf traced s n (w ++ f) ≡ lineFor traced (n + 1) (answerOf s (w ++ f))
-      ++ ifb (goesOn (answerOf s (w ++ f) .refusal)) (linesOf traced (answerOf s (w ++ f) .state) (n + 1) (behindOf (w ++ f))) []
+  first : linesOf traced s n (w ++ f) ≡ lineFor traced (n + 1) (answerFor s (w ++ f))
+      ++ ifb (goesOn (answerFor s (w ++ f) .refusal)) (linesOf traced (answerFor s (w ++ f) .state) (n + 1) (behindOf (w ++ f))) []
   first = lines-first traced s n (w ++ f) (let g = length-append w f in omega arith)
 
   same : frontOf (w ++ f) ≡ frontOf w → behindOf (w ++ f) ≡ behindOf w ++ f → FirstLine
   same a b = first ∙ rw (a, b)
 
-  pub settled-text : Settled w f → FirstLine
-  settled-text (entire e) =
+  pub decided-text : Decided w f → FirstLine
+  decided-text (entire e) =
       let k = whole-stays w f h e in
       same (front-first (w ++ f) (k .0) ∙ k .1 ∙ sym (front-first w e)) (behind-rest (w ++ f) (k .0) ∙ k .2 ∙ ap (λ (l : List ℕ). l ++ f) (sym (behind-rest w e)))
-  settled-text (last e) = rw e (lines-first traced s n (w ++ []) (rw (append-nil w) h) ∙ rw (append-nil w, append-nil (behindOf w)))
-  settled-text (marked l e) =
+  decided-text (last e) = rw e (lines-first traced s n (w ++ []) (rw (append-nil w) h) ∙ rw (append-nil w, append-nil (behindOf w)))
+  decided-text (marked l e) =
       let d = other-stays w f l e in
-      let a : answerOf s (w ++ f) ≡ refused 4 s = stopped (w ++ f) d in
-      let b : answerOf s w ≡ refused 4 s = stopped w e in
+      let a : answerFor s (w ++ f) ≡ refused 4 s = stopped (w ++ f) d in
+      let b : answerFor s w ≡ refused 4 s = stopped w e in
       first ∙ rw (a, b, stops)
     where
-      stopped : (b : List ℕ) → runCheck b ≡ 4 → answerOf s b ≡ refused 4 s
+      stopped : (b : List ℕ) → runCheck b ≡ 4 → answerFor s b ≡ refused 4 s
       stopped b z =
           let k = other-check b z in
           rw (front-all b (λ y. omega arith)) (step-unread s b well (λ y. omega arith) ∙ rw k)

@@ -19,8 +19,8 @@ unfoldable pub behindOf : List ℕ → List ℕ
 behindOf b = ifb (eqb (runCheck b) 0) (runRest b) []
 
 -- the step on the record in front
-abbrev pub answerOf : State → List ℕ → Result
-answerOf s b = stepOf s (frontOf b) fullRoom
+abbrev pub answerFor : State → List ℕ → Result
+answerFor s b = stepOf s (frontOf b) fullRoom
 
 -- the line of record n: its number, refusal or 0, bytes written, current view number; traced, the bytes behind them
 unfoldable pub lineFor : Bool → ℕ → Result → List ℕ
@@ -36,8 +36,8 @@ unfoldable pub linesIn : ℕ → Bool → State → ℕ → List ℕ → List �
 linesIn zero traced s n b = []
 linesIn (suc k) traced s n b =
     ifb (eqb (length b) 0) []
-    (lineFor traced (n + 1) (answerOf s b)
-    ++ ifb (goesOn (answerOf s b .refusal)) (linesIn k traced (answerOf s b .state) (n + 1) (behindOf b)) [])
+    (lineFor traced (n + 1) (answerFor s b)
+    ++ ifb (goesOn (answerFor s b .refusal)) (linesIn k traced (answerFor s b .state) (n + 1) (behindOf b)) [])
 
 -- the text for the rest of an input, which has no more records than bytes
 unfoldable pub linesOf : Bool → State → ℕ → List ℕ → List ℕ

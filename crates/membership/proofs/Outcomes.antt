@@ -12,7 +12,7 @@ use Rattle.rules.specs.State.{State}
 use Rattle.rules.specs.Rules.{Outcome, nothingWritten, andThen, netAfter, withNet, seated, slowTest, agreementTest, tests, reportRule, proposalRule}
 use Rattle.rules.specs.Refusals.{Event, ruleOf, size, fullRoom}
 use Rattle.rules.proofs.Sizes.{event-size}
-use Rattle.row.specs.Row.{withNetSet}
+use Rattle.row.specs.Changes.{withNetSet}
 use Rattle.parts.specs.Parts.{receiving, fastRound}
 
 pub tests-is : (s : State) → andThen (slowTest s) agreementTest ≡ tests s

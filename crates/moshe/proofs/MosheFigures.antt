@@ -4,13 +4,13 @@ use mathlib.Core.Path.{_≡_, refl, sym, ap, subst, _∙_}
 use mathlib.Core.Bool.{Bool, true, false, _&&_, _||_, not}
 use mathlib.Core.Logic.{_⊎_, inl, inr, _↔_}
 use mathlib.Core.List.{List, [], _∷_, _++_, map, map-append}
-use Prim.Native.Nat.{ℕ, zero, suc, _+_, _<_}
+use Prim.Native.Nat.{ℕ, _+_, _<_}
 use native.Mathlib.Omega.{arith}
 use native.Mathlib.Decide.{ℕ-discrete}
 use lib.Dec.{eqb}
 use borrow.Author.Tests.{eqb-true, eq-eqb}
 use Rattle.laws.specs.Fin.{allb, anyb, largest}
-use Rattle.laws.proofs.Fin.{largest-ext, and-l, and-r, and-in, if-cases}
+use Rattle.laws.proofs.Fin.{largest-ext, and-l, and-r, and-in, if-cases, allb-ext}
 use Rattle.laws.specs.Tab.{tab}
 use Rattle.laws.proofs.Tab.{tab-ext}
 use Rattle.laws.specs.Upd.{ifb, upd}
@@ -22,8 +22,8 @@ use Rattle.records.specs.declared.Proposal.{Proposal}
 use Rattle.rules.specs.State.{Mode, None, Fast, Slow, Slot, State, keeping, fast, slow, zeros, storedAt, acceptedAt}
 use Rattle.rules.specs.Rules.{notice, proposal, Outcome, nothingWritten, andThen, fresh, netAfter, withNet, seated, opened, noticeOf, opens, nextNumber, ownProposal, proposed, receives, proposesFast, received, inSlot}
 use Rattle.rules.specs.Rules.{slowCalled, beginsIn, proposesSlow, slowTest, isNone, agreesKind, agreesIn, agreed, startOf, viewOf, concluded, agreementTest, tests, reportRule, proposalRule}
-use Rattle.moshe.specs.Moshe.{Leaves, Server, toClients, toServers, Ran, nothingSent, thenRun, local, initially, propsOf, usedPropsOf, updateNSView, anyLocal, startFA, sendStartChange, proposalFA, others, sendProposal, storeProp, useProps, sendView}
-use Rattle.moshe.specs.Moshe.{deliverView, matchesNSView, onProposal, startsFA, onNE, reachedFA, neverSA, noSA, fastOnProposal, fastOnNE, serverOf, stateOf, addressed, ranOf, needed, slowProposal, reached, onProposal01, onNE01}
+use Rattle.moshe.specs.Moshe.{Leaves, Server, toClients, toServers, Handled, nothingSent, thenRun, local, initially, propsOf, usedPropsOf, updateNSView, anyLocal, startFA, sendStartChange, proposalFA, others, sendProposal, storeProp, useProps, sendView}
+use Rattle.moshe.specs.Moshe.{deliverView, matchesNSView, onProposal, startsFA, onNE, reachedFA, neverSA, noSA, fastOnProposal, fastOnNE, serverOf, stateFrom, addressed, handledOf, needed, slowProposal, reached, onProposal01, onNE01}
 use Rattle.rules.proofs.Parts.{proposed-reads, received-reads}
 use Rattle.rules.proofs.Tests.{not-called, agreed-out}
 
@@ -39,17 +39,17 @@ local-some v = (
 )
 
 -- the initial values are the fresh state
-pub initially-fresh : (o : ℕ) → stateOf zeros (initially o) ≡ fresh o
+pub initially-fresh : (o : ℕ) → stateFrom zeros (initially o) ≡ fresh o
 unfolding fresh initially
 initially-fresh o = refl
 
 -- one part after another, on either side
 ran-then : (own : ℕ) (acc : List ℕ) (o : Outcome) (f : State → Outcome) → o .state .accepted ≡ acc
-    → ranOf own (andThen o f) ≡ thenRun (ranOf own o) (λ v. ranOf own (f (stateOf acc v)))
+    → handledOf own (andThen o f) ≡ thenRun (handledOf own o) (λ v. handledOf own (f (stateFrom acc v)))
 unfolding andThen thenRun
 ran-then own acc o f e = rw (← e, map-append (addressed own) (o .written) (f (o .state) .written))
 
-then-same : (r : Ran) (f g : Server → Ran) → f (r .server) ≡ g (r .server) → thenRun r f ≡ thenRun r g
+then-same : (r : Handled) (f g : Server → Handled) → f (r .server) ≡ g (r .server) → thenRun r f ≡ thenRun r g
 unfolding thenRun
 then-same r f g e = rw e
 
@@ -105,43 +105,43 @@ module _ (t : State) where
       go false = refl
 
 -- The handlers, whatever stands for the three functions.
-module _ (N : Server → Proposal → Bool) (S : Server → Proposal → Ran) (R : Server → Bool) where
-  deliver-is : (s : State) → agreed s ≡ R (serverOf s) → deliverView N S R (serverOf s) ≡ ranOf (s .own) (agreementTest s)
+module _ (N : Server → Proposal → Bool) (S : Server → Proposal → Handled) (R : Server → Bool) where
+  deliver-is : (s : State) → agreed s ≡ R (serverOf s) → deliverView N S R (serverOf s) ≡ handledOf (s .own) (agreementTest s)
   unfolding deliverView agreementTest sendView concluded viewOf
   deliver-is s h = go (agreed s) refl
     where
-      go : (t : Bool) → agreed s ≡ t → deliverView N S R (serverOf s) ≡ ranOf (s .own) (agreementTest s)
+      go : (t : Bool) → agreed s ≡ t → deliverView N S R (serverOf s) ≡ handledOf (s .own) (agreementTest s)
       go true e = rw (← h, e, concludes s e)
       go false e = rw (← h, e)
 
   -- they do what document 01's tests do, on a state s
   SameTests : State → Proposal → Type 0
-  SameTests s p = matchesNSView N S R (serverOf s) p ≡ ranOf (s .own) (tests s)
+  SameTests s p = matchesNSView N S R (serverOf s) p ≡ handledOf (s .own) (tests s)
 
   on-proposal : (s : State) (p : Proposal) → (eqb (p .members .bits) (s .net .bits) ≡ true → SameTests (received s p) p)
-      → onProposal N S R (serverOf s) p ≡ ranOf (s .own) (proposalRule s p)
+      → onProposal N S R (serverOf s) p ≡ handledOf (s .own) (proposalRule s p)
   unfolding SameTests onProposal proposalRule storeProp received
   on-proposal s p h = go (eqb (p .members .bits) (s .net .bits)) refl
     where
-      go : (t : Bool) → eqb (p .members .bits) (s .net .bits) ≡ t → onProposal N S R (serverOf s) p ≡ ranOf (s .own) (proposalRule s p)
+      go : (t : Bool) → eqb (p .members .bits) (s .net .bits) ≡ t → onProposal N S R (serverOf s) p ≡ handledOf (s .own) (proposalRule s p)
       go true e = rw e (h e)
       go false e = rw e
 
   -- the lines of the NE handler after the first; t has the new net view
   module _ (t : State) (h : SameTests (proposesFast (opened t) .state) (made t)) where
-    delivered : onProposal N S R (startFA (serverOf t)) (proposalFA (startFA (serverOf t))) ≡ ranOf (t .own) (tests (proposesFast (opened t) .state))
+    delivered : onProposal N S R (startFA (serverOf t)) (proposalFA (startFA (serverOf t))) ≡ handledOf (t .own) (tests (proposesFast (opened t) .state))
     unfolding SameTests onProposal proposesFast proposed opened
     delivered = rw (made-is-prop t, stored-is t, members) h
       where
         members : eqb (made t .members .bits) (t .net .bits) ≡ true
         members = unfold made ownProposal in eq-eqb (t .net .bits) (t .net .bits) refl
 
-    starts-are : startsFA N S R (startFA (serverOf t)) ≡ ranOf (t .own) (andThen (opens t) (λ u. andThen (proposesFast u) tests))
+    starts-are : startsFA N S R (startFA (serverOf t)) ≡ handledOf (t .own) (andThen (opens t) (λ u. andThen (proposesFast u) tests))
     unfolding startsFA thenRun andThen opens
     starts-are = rw (delivered, sent-is t, ← (map-append (addressed (t .own)) (proposesFast (opened t) .written) (tests (proposesFast (opened t) .state) .written)))
 
   on-NE : (s : State) (n : Report) → (let t = withNet s (netAfter (s .net .bits) n) in seated t ≡ true → SameTests (proposesFast (opened t) .state) (made t))
-      → onNE N S R (serverOf s) n ≡ ranOf (s .own) (reportRule s n)
+      → onNE N S R (serverOf s) n ≡ handledOf (s .own) (reportRule s n)
   unfolding onNE reportRule updateNSView netAfter withNet anyLocal seated
   on-NE s n h = go (seated t) refl
     where
@@ -149,7 +149,7 @@ module _ (N : Server → Proposal → Bool) (S : Server → Proposal → Ran) (R
       t = withNet s (netAfter (s .net .bits) n)
 
       go : (b : Bool) → seated t ≡ b → ifb b (startsFA N S R (startFA (serverOf t))) (nothingSent (serverOf t))
-          ≡ ranOf (s .own) (ifb b (andThen (opens t) (λ u. andThen (proposesFast u) tests)) (nothingWritten t))
+          ≡ handledOf (s .own) (ifb b (andThen (opens t) (λ u. andThen (proposesFast u) tests)) (nothingWritten t))
       go true e = starts-are t (h e)
       go false e = refl
 
@@ -166,11 +166,11 @@ slow-keeps s = go (slowCalled s) (s .mode)
     go true Slow = (refl, refl)
 
 slow-is : (s : State) (p : Proposal)
-    → ifb (needed (s .accepted) (serverOf s) p) (slowProposal (s .accepted) (serverOf s) p) (nothingSent (serverOf s)) ≡ ranOf (s .own) (slowTest s)
+    → ifb (needed (s .accepted) (serverOf s) p) (slowProposal (s .accepted) (serverOf s) p) (nothingSent (serverOf s)) ≡ handledOf (s .own) (slowTest s)
 unfolding needed slowProposal slowTest
 slow-is s p = go (slowCalled s) refl
   where
-    go : (t : Bool) → slowCalled s ≡ t → ifb t (slowProposal (s .accepted) (serverOf s) p) (nothingSent (serverOf s)) ≡ ranOf (s .own) (slowTest s)
+    go : (t : Bool) → slowCalled s ≡ t → ifb t (slowProposal (s .accepted) (serverOf s) p) (nothingSent (serverOf s)) ≡ handledOf (s .own) (slowTest s)
     go true e = rw e
     go false e = rw e
 
@@ -180,8 +180,8 @@ tests-are s p =
     let k = slow-keeps s in
     let v = serverOf (slowTest s .state) in
     rw (slow-is s p, ran-then (s .own) (s .accepted) (slowTest s) agreementTest (k .1))
-    (then-same (ranOf (s .own) (slowTest s)) _ _
-    (deliver-is _ _ _ (stateOf (s .accepted) v) refl ∙ ap (λ (o : ℕ). ranOf o (agreementTest (stateOf (s .accepted) v))) (k .0)))
+    (then-same (handledOf (s .own) (slowTest s)) _ _
+    (deliver-is _ _ _ (stateFrom (s .accepted) v) refl ∙ ap (λ (o : ℕ). handledOf o (agreementTest (stateFrom (s .accepted) v))) (k .0)))
 
 tests-keep : (s : State) → tests s .state .accepted ≡ s .accepted
 unfolding tests andThen agreementTest concluded
@@ -200,7 +200,7 @@ unfolding proposalRule
 proposal-keeps s p = if-cases (λ (o : Outcome). o .state .accepted ≡ received s p .accepted) (eqb (p .members .bits) (s .net .bits)) _ _
     (λ e. tests-keep (received s p)) (λ e. refl)
 
-leaves : (own : ℕ) (accepted : List ℕ) (r : Ran) (o : Outcome) → o .state .accepted ≡ accepted → r ≡ ranOf own o → Leaves own accepted r o
+leaves : (own : ℕ) (accepted : List ℕ) (r : Handled) (o : Outcome) → o .state .accepted ≡ accepted → r ≡ handledOf own o → Leaves own accepted r o
 leaves own accepted r o a e = rw e (record { state = rw (← a); sent = refl })
 
 -- the handlers with document 01's slow agreement are the rules, on every state; the own delivery leaves the last accepted numbers
@@ -215,11 +215,6 @@ pub proposal-figure : (s : State) (p : Proposal)
 unfolding received
 proposal-figure s p = leaves _ _ _ _ (proposal-keeps s p)
     (on-proposal _ _ _ s p (λ e. tests-are (received s p) p))
-
-allb-same : (n : ℕ) (p q : ℕ → Bool) → ((k : ℕ) → k < n → p k ≡ q k) → allb n p ≡ allb n q
-unfolding allb
-allb-same zero p q h = refl
-allb-same (suc n) p q h = let a = h n (omega arith) in let b = allb-same n p q (λ k l. h k (omega arith)) in cc
 
 -- Fast agreement as printed. It takes mode fast, which a report sets, that slow agreement is not called for, that the own stored proposal
 -- is fast, and that those of the others have kind 1 or 2.
@@ -265,7 +260,7 @@ module _ (s : State) (m : s .mode ≡ Fast) (c : slowCalled s ≡ false) (f : Ow
   fast-reached = go (s .mode) m
     where
       go : (x : Mode) → x ≡ Fast → (not (isNone x) && allb 16 (λ o. not (serves (s .net .bits) o) || agreesIn x s o)) ≡ reachedFA (serverOf s)
-      go Fast e = allb-same 16 _ _ agrees-fast
+      go Fast e = allb-ext 16 _ _ agrees-fast
       go None e = let z : _≡_ {A = ℕ} 0 1 = cc in absurd (omega arith)
       go Slow e = let z : _≡_ {A = ℕ} 0 1 = cc in absurd (omega arith)
 

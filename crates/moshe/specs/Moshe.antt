@@ -85,14 +85,14 @@ pub data Message : Type 0 where
   toServers : Written → (ℕ → Bool) → Message
 
 -- what a handler leaves: the variables, and what it sent, in order
-pub record Ran : Type 0 where
+pub record Handled : Type 0 where
   pub server : Server
   pub sent : List Message
 
-abbrev pub nothingSent : Server → Ran
+abbrev pub nothingSent : Server → Handled
 nothingSent v = record { server = v; sent = [] }
 
-unfoldable pub thenRun : Ran → (Server → Ran) → Ran
+unfoldable pub thenRun : Handled → (Server → Handled) → Handled
 thenRun r f = record { server = f (r .server) .server; sent = r .sent ++ f (r .server) .sent }
 
 -- Figure 6, NE handler, line 1: NSView
@@ -187,25 +187,25 @@ unfoldable pub sendView : Server → List Message
 sendView v = toClients (view (v .curView)) (local (v .me) (v .NSView)) ∷ []
 
 -- Figure 6, the two handlers
-module _ (TestIfSAProposalNeeded : Server → Proposal → Bool) (SendSAProposal : Server → Proposal → Ran)
+module _ (TestIfSAProposalNeeded : Server → Proposal → Bool) (SendSAProposal : Server → Proposal → Handled)
     (TestIfAgreementReached : Server → Bool) where
-  unfoldable pub deliverView : Server → Ran
+  unfoldable pub deliverView : Server → Handled
   deliverView v = ifb (TestIfAgreementReached v) (record { server = useProps v; sent = sendView (useProps v) }) (nothingSent v)
 
-  unfoldable pub matchesNSView : Server → Proposal → Ran
+  unfoldable pub matchesNSView : Server → Proposal → Handled
   matchesNSView v inProp = thenRun (ifb (TestIfSAProposalNeeded v inProp) (SendSAProposal v inProp) (nothingSent v)) deliverView
 
-  unfoldable pub onProposal : Server → Proposal → Ran
+  unfoldable pub onProposal : Server → Proposal → Handled
   onProposal v inProp =
       let w = storeProp v inProp in
       ifb (eqb (inProp .members .bits) (w .NSView .bits)) (matchesNSView w inProp) (nothingSent w)
 
   -- lines 4, 8 and 9: the own proposal goes through the other handler too
-  unfoldable pub startsFA : Server → Ran
+  unfoldable pub startsFA : Server → Handled
   startsFA v =
       thenRun (record { server = v; sent = sendStartChange v ++ sendProposal v }) (λ w. onProposal w (proposalFA v))
 
-  unfoldable pub onNE : Server → NE → Ran
+  unfoldable pub onNE : Server → NE → Handled
   onNE v n = let w = updateNSView v n in ifb (anyLocal w) (startsFA (startFA w)) (nothingSent w)
 
 -- Figure 6, last lines: TestIfAgreementReached in the fast agreement algorithm, which has no TestIfSAProposalNeeded
@@ -216,13 +216,13 @@ reachedFA v =
 abbrev pub neverSA : Server → Proposal → Bool
 neverSA v inProp = false
 
-abbrev pub noSA : Server → Proposal → Ran
+abbrev pub noSA : Server → Proposal → Handled
 noSA v inProp = nothingSent v
 
-abbrev pub fastOnProposal : Server → Proposal → Ran
+abbrev pub fastOnProposal : Server → Proposal → Handled
 fastOnProposal = onProposal neverSA noSA reachedFA
 
-abbrev pub fastOnNE : Server → NE → Ran
+abbrev pub fastOnNE : Server → NE → Handled
 fastOnNE = onNE neverSA noSA reachedFA
 
 -- the state of document 01 is these variables with the last accepted numbers beside them
@@ -239,8 +239,8 @@ serverOf s =
       usedProps = s .used;
     }
 
-abbrev pub stateOf : List ℕ → Server → State
-stateOf accepted v =
+abbrev pub stateFrom : List ℕ → Server → State
+stateFrom accepted v =
     record {
       own = v .me;
       mode = v .running;
@@ -259,28 +259,28 @@ addressed own (notice n) = toClients (notice n) (local own (n .members))
 addressed own (proposal p) = toServers (proposal p) (receives p)
 addressed own (view v) = toClients (view v) (local own (v .members))
 
-abbrev pub ranOf : ℕ → Outcome → Ran
-ranOf own o = record { server = serverOf (o .state); sent = map (addressed own) (o .written) }
+abbrev pub handledOf : ℕ → Outcome → Handled
+handledOf own o = record { server = serverOf (o .state); sent = map (addressed own) (o .written) }
 
 -- an outcome of the rules is what a handler leaves: the same variables with these last accepted numbers beside them, and the same
 -- records in the same order, each sent to the recipients that document 01 gives it
-pub record Leaves (own : ℕ) (accepted : List ℕ) (r : Ran) (o : Outcome) : Type 0 where
-  pub state : o .state ≡ stateOf accepted (r .server)
+pub record Leaves (own : ℕ) (accepted : List ℕ) (r : Handled) (o : Outcome) : Type 0 where
+  pub state : o .state ≡ stateFrom accepted (r .server)
   pub sent : map (addressed own) (o .written) ≡ r .sent
 
 -- document 01's slow agreement in the three places; it looks at all that is stored, not at inProp
 module _ (accepted : List ℕ) where
   unfoldable pub needed : Server → Proposal → Bool
-  needed v inProp = slowCalled (stateOf accepted v)
+  needed v inProp = slowCalled (stateFrom accepted v)
 
-  unfoldable pub slowProposal : Server → Proposal → Ran
-  slowProposal v inProp = ranOf (v .me) (andThen (beginsIn (v .running) (stateOf accepted v)) proposesSlow)
+  unfoldable pub slowProposal : Server → Proposal → Handled
+  slowProposal v inProp = handledOf (v .me) (andThen (beginsIn (v .running) (stateFrom accepted v)) proposesSlow)
 
   unfoldable pub reached : Server → Bool
-  reached v = agreed (stateOf accepted v)
+  reached v = agreed (stateFrom accepted v)
 
-  abbrev pub onProposal01 : Server → Proposal → Ran
+  abbrev pub onProposal01 : Server → Proposal → Handled
   onProposal01 = onProposal needed slowProposal reached
 
-  abbrev pub onNE01 : Server → NE → Ran
+  abbrev pub onNE01 : Server → NE → Handled
   onNE01 = onNE needed slowProposal reached

@@ -1,28 +1,17 @@
 -- Records written one after another.
-use mathlib.Core.Path.{_≡_, refl, sym, ap, _∙_}
-use mathlib.Core.List.{List, [], _∷_, _++_, append-assoc, append-nil}
+use mathlib.Core.Path.{refl, sym, ap, _∙_}
+use mathlib.Core.List.{List, [], _∷_, _++_}
 use Prim.Native.Nat.{ℕ, _+_, _≤_}
 use native.Mathlib.Omega.{arith}
-use lib.ListN.{length, length-append}
+use lib.ListN.{length}
 use lib.Seq.{sets}
 use borrow.Author.Tests.{le-leb}
-use Rattle.laws.proofs.Big.{sets-append}
+use Rattle.laws.proofs.Seqs.{sets-append}
 use Rattle.records.specs.Write.{Placed, placed, placedCount}
 use Rattle.rules.specs.Rules.{Written}
 use Rattle.rules.specs.Refusals.{bytesOf, allBytes, size}
+use Rattle.rules.proofs.Sizes.{bytes-append, size-append, bytes-one}
 use Rattle.parts.specs.Did.{Appended}
-
-pub bytes-append : (a b : List Written) → allBytes (a ++ b) ≡ allBytes a ++ allBytes b
-unfolding allBytes
-bytes-append [] b = refl
-bytes-append (w ∷ a) b = ap (λ (l : List ℕ). bytesOf w ++ l) (bytes-append a b) ∙ sym (append-assoc (bytesOf w) (allBytes a) (allBytes b))
-
-pub size-append : (a b : List Written) → size (a ++ b) ≡ size a + size b
-size-append a b = ap length (bytes-append a b) ∙ length-append (allBytes a) (allBytes b)
-
-bytes-one : (w : Written) → allBytes (w ∷ []) ≡ bytesOf w
-unfolding allBytes
-bytes-one w = append-nil (bytesOf w)
 
 -- no record
 pub appended-none : (o : List ℕ) (at : ℕ) → Appended o at [] at o

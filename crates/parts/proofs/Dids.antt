@@ -9,9 +9,11 @@ use Rattle.records.specs.Write.{Placed}
 use Rattle.rules.specs.State.{State}
 use Rattle.rules.specs.Rules.{Written, Outcome, nothingWritten, andThen}
 use Rattle.rules.specs.Refusals.{bytesOf, size}
-use Rattle.row.specs.Row.{Row, Changed, stateOf}
+use Rattle.rules.proofs.Sizes.{size-append}
+use Rattle.row.specs.Row.{Row, stateOf}
+use Rattle.row.specs.Changes.{Changed}
 use Rattle.parts.specs.Did.{Did, Fits}
-use Rattle.parts.proofs.Appended.{size-append, appended-none, appended-one, appended-then}
+use Rattle.parts.proofs.Appended.{appended-none, appended-one, appended-then}
 
 -- a change that is another on this row
 pub changed-as : {f : State → State} {a b : List ℕ} (g : State → State) → Changed f a b → f (stateOf a) ≡ g (stateOf a) → Changed g a b

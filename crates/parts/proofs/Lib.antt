@@ -2,4 +2,3 @@ pub mod Appended
 pub mod Dids
 pub mod Made
 pub mod Bounding
-pub mod Loops

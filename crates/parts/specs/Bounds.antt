@@ -1,20 +1,14 @@
 -- A bound on the numbers of a state that an event works with.
-use mathlib.Core.Path.{_≡_}
-use mathlib.Core.Bool.{true}
 use Prim.Native.Nat.{ℕ, _≤_, _<_}
-use Rattle.rules.specs.State.{Slot, State, storedAt}
-
--- the numbers of what is stored, where something is
-pub record SlotBounded (k : ℕ) (v : Slot) : Type 0 where
-  pub start : v .present ≡ true → v .proposal .start ≤ k
-  pub number : v .present ≡ true → v .proposal .number ≤ k
+use Rattle.rules.specs.State.{State, storedAt}
+use Rattle.rules.specs.Bounds.{SlotCapped}
 
 pub record Bounded (k : ℕ) (s : State) : Type 0 where
   pub own : s .own < 16
   pub view : s .view .number ≤ k
   pub start : s .start ≤ k
   pub number : s .number ≤ k
-  pub stored : (o : ℕ) → o < 16 → SlotBounded k (storedAt s o)
+  pub stored : (o : ℕ) → o < 16 → SlotCapped k k (storedAt s o)
 
 -- numbers of at most L stay below the first until the tests, and below the second while one event goes on
 abbrev pub early : ℕ

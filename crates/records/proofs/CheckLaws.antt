@@ -2,7 +2,7 @@
 use mathlib.Core.Path.{_≡_, refl}
 use mathlib.Core.Bool.{Bool, true, false}
 use mathlib.Core.List.{List, [], _∷_}
-use mathlib.Core.Logic.{_⊎_, inl, inr, ⊎-elim}
+use mathlib.Core.Logic.{_⊎_, inl, inr}
 use Prim.Native.Nat.{ℕ, zero, suc, _<_, _≤_}
 use native.Mathlib.Omega.{arith}
 use lib.ListN.{length, getD}
@@ -102,8 +102,3 @@ check-cases b h = go (eqb (markOf b) (valueOf reportMark)) (eqb (markOf b) (valu
     go true t d e = inl (rw d (rw d at h))
     go false true d e = inr (rw e (rw (d, e) at h))
     go false false d e = absurd (let z = check-some 0 b (rw (d, e) at h) in omega arith)
-
-pub checked-long : (b : List ℕ) → checkOf b ≡ 0 → 18 ≤ length b
-checked-long b h =
-    ⊎-elim (λ r. let l = own-length reportMark reportLength b r in omega arith)
-    (λ p. let l = own-length proposalMark proposalLength b p in omega arith) (check-cases b h)

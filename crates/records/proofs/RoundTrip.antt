@@ -1,12 +1,13 @@
 -- Each record comes back the same both ways: a value that fits its fields by its bytes, bytes of the right mark and length by their value.
-use mathlib.Core.Path.{_≡_, refl, sym, ap, _∙_}
+use mathlib.Core.Path.{_≡_, refl, sym, _∙_}
 use mathlib.Core.List.{List, [], _∷_, _++_}
 use Prim.Native.Nat.{ℕ, suc, _+_, _*_, _<_, _^_}
 use native.Mathlib.Omega.{arith}
 use lib.ListN.{length, getD}
 use Rattle.laws.specs.Big.{bytes4, bytes8, bytesAll, big4, Below}
 use Rattle.laws.proofs.Big.{both, digits4, digits8, all-back, bytes-back, big4-back, big8-back}
-use Rattle.laws.proofs.Big.{big4-below, big8-below, tab-below, listed}
+use Rattle.laws.proofs.Big.{big4-below, big8-below, tab-below}
+use Rattle.laws.proofs.Seqs.{tab-self}
 use Rattle.laws.specs.Tab.{tab}
 use Rattle.laws.proofs.Tab.{length-tab}
 use Rattle.records.specs.declared.Report.{Report}
@@ -23,7 +24,11 @@ use Rattle.records.specs.Fits.{FitsSixteen, FitsReport, FitsProposal, Fi
 -- a value by its bytes
 pub report-back : (r : Report) → FitsReport r → decodeReport (encodeReport r) ≡ r
 unfolding encodeReport decodeReport
-report-back r f = rw (digits8 (r .joining .bits) (f .joining), digits8 (r .leaving .bits) (f .leaving))
+report-back r f =
+    let back = decodeReport (encodeReport r) in
+    let joining : back .joining .bits ≡ r .joining .bits = digits8 (r .joining .bits) (f .joining) in
+    let leaving : back .leaving .bits ≡ r .leaving .bits = digits8 (r .leaving .bits) (f .leaving) in
+    rw (joining, leaving)
 
 pub notice-back : (n : Notice) → FitsNotice n → decodeNotice (encodeNotice n) ≡ n
 unfolding encodeNotice decodeNotice
@@ -83,7 +88,7 @@ module _ (b : List ℕ) (bytes : Below 256 b) where
   whole x y n rest hx hy c e =
       let l = own-length (x ∷ y ∷ []) (suc (suc n)) b c in
       let f = own-front x y (suc (suc n)) b bytes hx hy (omega arith) c in
-      let p : b ≡ tab (suc (suc n)) (λ k. getD b k 0) = listed b ∙ ap (λ (m : ℕ). tab m (λ k. getD b k 0)) l in
+      let p : b ≡ tab (suc (suc n)) (λ k. getD b k 0) = tab-self (suc (suc n)) 0 b l in
       sym (p ∙ rw (f .0, f .1, e))
 
   pub report-again : checkOwn reportMark reportLength b ≡ 0 → encodeReport (decodeReport b) ≡ b

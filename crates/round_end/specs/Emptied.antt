@@ -6,7 +6,7 @@ use Rattle.laws.specs.Tab.{tab}
 use Rattle.laws.specs.Upd.{ifb}
 use Rattle.seats.specs.Seats.{serves}
 use Rattle.rules.specs.State.{State, nothing, storedAt, usedAt, numberIn}
-use Rattle.row.specs.Row.{withStored, withUsed}
+use Rattle.row.specs.Changes.{withStored, withUsed}
 
 -- the used number of office o becomes its proposal's number, and its stored proposal becomes nothing
 abbrev pub emptying : ℕ → State → State

@@ -7,7 +7,8 @@ ghost use mathlib.Core.Path.{_≡_};
 ghost use Prim.Native.Nat.{_+_, _<_, _^_};
 ghost use Rattle.laws.specs.Fin.{largest};
 ghost use Rattle.rules.specs.Rules.{startOf, viewOf, concluded};
-ghost use Rattle.row.specs.Row.{Row, Changed, stateOf};
+ghost use Rattle.row.specs.Row.{Row, stateOf};
+ghost use Rattle.row.specs.Changes.{Changed};
 ghost use Rattle.round_end.specs.Emptied.{emptying, emptied};
 
 pub fn view_of(s: &[u32]) -> View

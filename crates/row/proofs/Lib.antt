@@ -1,3 +1,4 @@
 pub mod Parts
 pub mod Low
 pub mod Words
+pub mod Holds

@@ -2,31 +2,24 @@
 use mathlib.Core.Path.{_≡_, refl, sym, ap}
 use mathlib.Core.Bool.{Bool, true, false, not, _&&_, _||_}
 use mathlib.Core.List.{List}
-use Prim.Native.Nat.{ℕ, zero, suc, _+_, _*_, _<_, _≤_}
+use Prim.Native.Nat.{ℕ, _+_, _*_, _<_, _≤_}
 use native.Mathlib.Omega.{arith}
 use lib.ListN.{length, getD}
 use lib.Dec.{eqb, leb}
-use lib.Bits.{bitOr, or-lt, or-comm, or-add-and, and-le-r}
+use lib.Bits.{bitOr, or-lt, or-comm}
 use borrow.Author.Tests.{eq-eqb, ne-eqb, eqb-true, leb-true, leb-false, le-leb, lt-leb}
 use Rattle.laws.specs.Fin.{allb}
-use Rattle.laws.proofs.Fin.{allb-in, allb-out, and-l, and-r, and-in}
+use Rattle.laws.proofs.Fin.{allb-in, allb-out, and-l, and-r, and-in, allb-ext, or-in}
+use Rattle.laws.proofs.Bit.{or-above}
 use Rattle.laws.proofs.Tab.{getD-tab}
 use Rattle.rules.specs.State.{storedAt}
-use Rattle.rules.specs.Rules.{inSlot}
+use Rattle.rules.specs.Bounds.{SlotCapped, Capped}
 use Rattle.rules.specs.Refusals.{limit, within, slotWithin, wellFormed}
 use Rattle.row.specs.Row.{rowLength, ownPlace, modePlace, slotPlace, startPlace, numberPlace, viewPlace, startsPlace, acceptedPlace, usedPlace, numbersPlace, numbersCount}
-use Rattle.row.specs.Row.{sixteenAt, slotOf, stateOf, Row, isRow, soundRow, low, lowRow, Low}
-use Rattle.row.proofs.Parts.{stored-is}
-
-allb-ext : (n : ℕ) (p q : ℕ → Bool) → ((k : ℕ) → k < n → p k ≡ q k) → allb n p ≡ allb n q
-unfolding allb
-allb-ext zero p q e = refl
-allb-ext (suc n) p q e = rw (e n (omega arith), allb-ext n p q (λ k h. e k (omega arith)))
+use Rattle.row.specs.Row.{sixteenWords, slotOf, stateOf, Row, isRow, soundRow, low, lowRow}
+use Rattle.row.proofs.Parts.{row-stored}
 
 -- two numbers are at most low, thirty ones, just where their digits together are
-or-above : (a b : ℕ) → b ≤ bitOr a b
-or-above a b = let e = or-add-and b a in let l = and-le-r b a in let c = or-comm a b in omega arith
-
 pub or-low : (a b : ℕ) → leb (bitOr a b) low ≡ leb b low && leb a low
 or-low a b = go (leb b low) (leb a low) refl refl
   where
@@ -81,16 +74,16 @@ pub not-sound : (ws : List ℕ) → isRow ws ≡ false → soundRow ws ≡ false
 unfolding soundRow
 not-sound ws e = rw e
 
-sixteen-within : (ws : List ℕ) (k : ℕ) → allb 16 (λ o. within (getD ws (k + o) 0)) ≡ allb 16 (λ o. within (getD (sixteenAt ws k) o 0))
+sixteen-within : (ws : List ℕ) (k : ℕ) → allb 16 (λ o. within (getD ws (k + o) 0)) ≡ allb 16 (λ o. within (getD (sixteenWords ws k) o 0))
 sixteen-within ws k =
-    allb-ext 16 (λ o. within (getD ws (k + o) 0)) (λ o. within (getD (sixteenAt ws k) o 0))
+    allb-ext 16 (λ o. within (getD ws (k + o) 0)) (λ o. within (getD (sixteenWords ws k) o 0))
     (λ o h. ap within (sym (getD-tab 16 (λ j. getD ws (k + j) 0) o 0 h)))
 
 pub slot-words : (ws : List ℕ) (o : ℕ) → o < 16
     → slotWithin (storedAt (stateOf ws) o) ≡ not (storedAt (stateOf ws) o .present)
     || (within (getD ws (numbersPlace o) 0) && within (getD ws (numbersPlace o + 1) 0) && allb 16 (λ k. within (getD ws (numbersPlace o + 2 + k) 0)))
 unfolding slotWithin slotOf
-slot-words ws o lt = rw (stored-is ws o lt, sixteen-within ws (numbersPlace o + 2))
+slot-words ws o lt = rw (row-stored ws o lt, sixteen-within ws (numbersPlace o + 2))
 
 pub well-words : (ws : List ℕ)
     → wellFormed (stateOf ws) ≡ leb (getD ws ownPlace 0) 15 && within (getD ws viewPlace 0) && within (getD ws startPlace 0) && within (getD ws numberPlace 0)
@@ -112,10 +105,6 @@ pub sound-well : (ws : List ℕ) → soundRow ws ≡ true → wellFormed (stateO
 unfolding soundRow
 sound-well ws e = and-r (isRow ws) (wellFormed (stateOf ws)) e
 
-or-in : (a b : Bool) → b ≡ true → a || b ≡ true
-or-in true b e = refl
-or-in false b e = e
-
 module _ (ws : List ℕ) (e : lowRow ws ≡ true) where
   low-tests : isRow ws && leb (getD ws ownPlace 0) 15 ≡ true
   unfolding lowRow
@@ -123,9 +112,6 @@ module _ (ws : List ℕ) (e : lowRow ws ≡ true) where
 
   low-isRow : isRow ws ≡ true
   low-isRow = and-l (isRow ws) (leb (getD ws ownPlace 0) 15) low-tests
-
-  pub low-row : Row ws
-  low-row = row-is ws low-isRow
 
   low-own : leb (getD ws ownPlace 0) 15 ≡ true
   low-own = and-r (isRow ws) (leb (getD ws ownPlace 0) 15) low-tests
@@ -159,22 +145,21 @@ module _ (ws : List ℕ) (e : lowRow ws ≡ true) where
   pub low-sound : soundRow ws ≡ true
   low-sound = rw (sound-words ws low-isRow) low-well
 
-  low-stored : (o : ℕ) → o < 16 → (inSlot (stateOf ws) o .start ≤ low) × (inSlot (stateOf ws) o .number ≤ low)
+  low-stored : (o : ℕ) → o < 16 → SlotCapped low low (storedAt (stateOf ws) o)
   unfolding slotOf
-  low-stored o h =
-      rw (stored-is ws o h, inSlot) (low-number (numbersPlace o) (51 + 18 * o) (omega arith) (omega arith), low-number (numbersPlace o + 1) (52 + 18 * o) (omega arith) (omega arith))
+  low-stored o h = rw (row-stored ws o h) (record {
+    start = λ p. low-number (numbersPlace o) (51 + 18 * o) (omega arith) (omega arith);
+    number = λ p. low-number (numbersPlace o + 1) (52 + 18 * o) (omega arith) (omega arith);
+  })
 
-  pub low-is : Low (stateOf ws)
+  pub low-is : Capped low low (stateOf ws)
   unfolding stateOf
-  low-is =
-      let w = leb-true (getD ws ownPlace 0) 15 low-own in
-      record {
-        own = omega arith;
-        view = low-number viewPlace 2 (omega arith) (omega arith);
-        start = low-number startPlace 0 (omega arith) (omega arith);
-        number = low-number numberPlace 1 (omega arith) (omega arith);
-        stored = low-stored;
-      }
+  low-is = record {
+    view = low-number viewPlace 2 (omega arith) (omega arith);
+    start = low-number startPlace 0 (omega arith) (omega arith);
+    number = low-number numberPlace 1 (omega arith) (omega arith);
+    stored = low-stored;
+  }
 
 -- a row passes the test for one
 pub is-row : (ws : List ℕ) → Row ws → isRow ws ≡ true

@@ -12,24 +12,24 @@ use Rattle.seats.specs.declared.SeatSet.{SeatSet}
 use Rattle.records.specs.declared.View.{View}
 use Rattle.rules.specs.State.{Mode, None, Fast, Slow, Slot, State, nothing, storedAt, acceptedAt, usedAt, usedFor, kindOf}
 use Rattle.row.specs.Row.{ownPlace, modePlace, netPlace, membersPlace, slotPlace, startPlace, numberPlace, viewPlace, startsPlace, acceptedPlace, usedPlace, numbersPlace}
-use Rattle.row.specs.Row.{word, flag, setWords, slotWords, slotNumbers, setAt, modeOf, sixteenAt, slotOf, stateOf}
+use Rattle.row.specs.Row.{word, flag, slotWords, slotNumbers, setAt, modeOf, sixteenWords, slotOf, stateOf}
 
 -- what stands for an office
-pub accepted-is : (ws : List ℕ) (o : ℕ) → o < 16 → acceptedAt (stateOf ws) o ≡ getD ws (acceptedPlace + o) 0
+pub row-accepted : (ws : List ℕ) (o : ℕ) → o < 16 → acceptedAt (stateOf ws) o ≡ getD ws (acceptedPlace + o) 0
 unfolding stateOf
-accepted-is ws o lt = getD-tab 16 (λ k. getD ws (acceptedPlace + k) 0) o 0 lt
+row-accepted ws o lt = getD-tab 16 (λ k. getD ws (acceptedPlace + k) 0) o 0 lt
 
-pub used-is : (ws : List ℕ) (o : ℕ) → o < 16 → usedAt (stateOf ws) o ≡ getD ws (usedPlace + o) 0
+pub row-used : (ws : List ℕ) (o : ℕ) → o < 16 → usedAt (stateOf ws) o ≡ getD ws (usedPlace + o) 0
 unfolding stateOf
-used-is ws o lt = getD-tab 16 (λ k. getD ws (usedPlace + k) 0) o 0 lt
+row-used ws o lt = getD-tab 16 (λ k. getD ws (usedPlace + k) 0) o 0 lt
 
-pub stored-is : (ws : List ℕ) (o : ℕ) → o < 16 → storedAt (stateOf ws) o ≡ slotOf ws o
+pub row-stored : (ws : List ℕ) (o : ℕ) → o < 16 → storedAt (stateOf ws) o ≡ slotOf ws o
 unfolding stateOf
-stored-is ws o lt = getD-tab 16 (slotOf ws) o nothing lt
+row-stored ws o lt = getD-tab 16 (slotOf ws) o nothing lt
 
 pub stored-used-is : (ws : List ℕ) (o k : ℕ) → o < 16 → k < 16 → usedFor (storedAt (stateOf ws) o .proposal) k ≡ getD ws (numbersPlace o + 2 + k) 0
 unfolding slotOf
-stored-used-is ws o k lt l = rw (stored-is ws o lt) (getD-tab 16 (λ j. getD ws (numbersPlace o + 2 + j) 0) k 0 l)
+stored-used-is ws o k lt l = rw (row-stored ws o lt) (getD-tab 16 (λ j. getD ws (numbersPlace o + 2 + j) 0) k 0 l)
 
 -- the mode word
 pub mode-word : (n : ℕ) → n ≤ 2 → kindOf (modeOf n) ≡ n
@@ -50,18 +50,18 @@ kind-none Slow e = absurd (omega arith)
 
 -- a state by its parts
 abbrev pub viewAt : List ℕ → View
-viewAt ws = record { number = getD ws viewPlace 0; members = setAt ws membersPlace; starts = sixteenAt ws startsPlace }
+viewAt ws = record { number = getD ws viewPlace 0; members = setAt ws membersPlace; starts = sixteenWords ws startsPlace }
 
 pub record Parts (ws : List ℕ) (t : State) : Type 0 where
   pub own : getD ws ownPlace 0 ≡ t .own
   pub mode : modeOf (getD ws modePlace 0) ≡ t .mode
   pub net : setAt ws netPlace ≡ t .net
   pub stored : tab 16 (slotOf ws) ≡ t .stored
-  pub accepted : sixteenAt ws acceptedPlace ≡ t .accepted
+  pub accepted : sixteenWords ws acceptedPlace ≡ t .accepted
   pub view : viewAt ws ≡ t .view
   pub start : getD ws startPlace 0 ≡ t .start
   pub number : getD ws numberPlace 0 ≡ t .number
-  pub used : sixteenAt ws usedPlace ≡ t .used
+  pub used : sixteenWords ws usedPlace ≡ t .used
 
 pub by-parts : (ws : List ℕ) (t : State) → Parts ws t → stateOf ws ≡ t
 unfolding stateOf
@@ -73,7 +73,7 @@ unfolding setAt
 set-read ws k x a b = let e : getD ws k 0 + word * getD ws (k + 1) 0 ≡ x .bits = omega arith in rw e
 
 -- sixteen numbers, from their words
-pub sixteen-read : (ws : List ℕ) (k : ℕ) (l : List ℕ) → length l ≡ 16 → ((j : ℕ) → j < 16 → getD ws (k + j) 0 ≡ getD l j 0) → sixteenAt ws k ≡ l
+pub sixteen-read : (ws : List ℕ) (k : ℕ) (l : List ℕ) → length l ≡ 16 → ((j : ℕ) → j < 16 → getD ws (k + j) 0 ≡ getD l j 0) → sixteenWords ws k ≡ l
 sixteen-read ws k l e h = sym (filled 16 (λ j. getD ws (k + j) 0) 0 l e (λ j m. sym (h j m)))
 
 -- a presence word

@@ -13,9 +13,10 @@ use Rattle.laws.proofs.Tab.{tab-ext, length-tab, getD-tab, filled}
 use Rattle.laws.proofs.Seqs.{tab-add, tab-self}
 use Rattle.rules.specs.State.{Mode, None, Fast, Slow, Slot, State, kindOf, zeros, nothing, storedAt}
 use Rattle.rules.specs.Rules.{fresh}
+use Rattle.rules.proofs.Shapes.{Shaped}
 use Rattle.row.specs.Row.{word, rowLength, ownPlace, modePlace, netPlace, membersPlace, slotPlace, startPlace, numberPlace, viewPlace, startsPlace, acceptedPlace, usedPlace, numbersPlace}
-use Rattle.row.specs.Row.{setAt, modeOf, sixteenAt, slotOf, stateOf, flag, setWords, slotWords, slotNumbers, each, wordsOf, Row, Shaped, Changed}
-use Rattle.row.proofs.Parts.{by-parts, viewAt, stored-is, mode-word, mode-back, flag-le, set-read, sixteen-read, slot-read}
+use Rattle.row.specs.Row.{setAt, modeOf, sixteenWords, slotOf, stateOf, flag, setWords, slotWords, slotNumbers, each, wordsOf, Row}
+use Rattle.row.proofs.Parts.{by-parts, viewAt, row-stored, mode-word, mode-back, flag-le, set-read, sixteen-read, slot-read}
 
 -- A row in parts: the n words of g from p on.
 abbrev run : (ℕ → ℕ) → ℕ → ℕ → List ℕ
@@ -85,8 +86,8 @@ module _ (ws : List ℕ) (r : Row ws) (s : (k : ℕ) → getD ws k 0 < word) whe
   from-numbers : each slotNumbers (tab 16 (slotOf ws)) ≡ run g (numbersPlace 0) 288
   from-numbers = each-run slotNumbers g 18 16 (numbersPlace 0) (slotOf ws) (λ o h. slot-numbers o)
 
-  sixteen-on : (at n : ℕ) (l : List ℕ) → l ≡ run g (at + 16) n → sixteenAt ws at ++ l ≡ run g at (16 + n)
-  sixteen-on at n l e = ap (λ (x : List ℕ). sixteenAt ws at ++ x) e ∙ join g at 16 (at + 16) n refl
+  sixteen-on : (at n : ℕ) (l : List ℕ) → l ≡ run g (at + 16) n → sixteenWords ws at ++ l ≡ run g at (16 + n)
+  sixteen-on at n l e = ap (λ (x : List ℕ). sixteenWords ws at ++ x) e ∙ join g at 16 (at + 16) n refl
 
   set-on : (at n : ℕ) (l : List ℕ) → l ≡ run g (at + 2) n → setWords (setAt ws at) ++ l ≡ run g at (2 + n)
   set-on at n l e =
@@ -117,10 +118,6 @@ module _ (ws : List ℕ) (r : Row ws) (s : (k : ℕ) → getD ws k 0 < word) whe
 
 pub row-words : (ws : List ℕ) (t : State) → Row ws → ((k : ℕ) → getD ws k 0 < word) → stateOf ws ≡ t → ws ≡ wordsOf t
 row-words ws t r s e = sym (words-state ws r s) ∙ ap wordsOf e
-
--- what a change leaves, word for word
-pub words-changed : {f : State → State} {before after : List ℕ} → Changed f before after → ((k : ℕ) → getD after k 0 < word) → after ≡ wordsOf (f (stateOf before))
-words-changed {f} {before} {after} c s = row-words after (f (stateOf before)) (c .row) s (c .is)
 
 -- The other way round. All that is asked of a state is that its lists have their lengths.
 module _ {A : Type 0} (f : A → List ℕ) (m : ℕ) (d : A) where
@@ -288,11 +285,8 @@ state-shaped ws = record {
 }
   where
     slot : (o : ℕ) → Dec (o < 16) → length (storedAt (stateOf ws) o .proposal .used) ≡ 16
-    slot o (yes l) = rw (stored-is ws o l) (slot-long ws o)
+    slot o (yes l) = rw (row-stored ws o l) (slot-long ws o)
     slot o (no l) = let z = length-tab 16 (slotOf ws) in rw (List·getD-eq-default (tab 16 (slotOf ws)) nothing {n = o} (omega arith)) nothing-long
-
-pub changed-shaped : {f : State → State} {before after : List ℕ} → Changed f before after → Shaped (f (stateOf before))
-changed-shaped {f} {before} {after} c = rw (← c .is) (state-shaped after)
 
 pub fresh-shaped : (o : ℕ) → Shaped (fresh o)
 unfolding fresh tab
@@ -301,6 +295,3 @@ fresh-shaped o = record { stored = refl; accepted = refl; used = refl; starts = 
     slot : (k : ℕ) → Dec (k < 16) → length (storedAt (fresh o) k .proposal .used) ≡ 16
     slot k (yes l) = rw (getD-tab 16 (λ i. nothing) k nothing l) nothing-long
     slot k (no l) = let z = length-tab {A = Slot} 16 (λ i. nothing) in rw (List·getD-eq-default (tab 16 (λ i. nothing)) nothing {n = k} (omega arith)) nothing-long
-
-pub fresh-back : (o : ℕ) → stateOf (wordsOf (fresh o)) ≡ fresh o
-fresh-back o = state-words (fresh o) (fresh-shaped o)

@@ -11,12 +11,11 @@ use lib.ListN.{length, getD}
 use lib.Dec.{eqb, leb}
 use Rattle.laws.specs.Fin.{allb}
 use Rattle.laws.specs.Tab.{tab}
-use Rattle.laws.specs.Upd.{ifb, upd}
+use Rattle.laws.specs.Upd.{ifb}
 use Rattle.seats.specs.declared.SeatSet.{SeatSet}
-use Rattle.records.specs.declared.View.{View}
-use Rattle.rules.specs.State.{Mode, None, Fast, Slow, Slot, State, kindOf, storedAt, acceptedAt, usedAt}
-use Rattle.rules.specs.Rules.{inSlot}
+use Rattle.rules.specs.State.{Mode, None, Fast, Slow, Slot, State, kindOf}
 use Rattle.rules.specs.Refusals.{wellFormed}
+pub use Rattle.rules.specs.Bounds.{low}
 
 abbrev pub word : ℕ
 word = 4294967296
@@ -70,8 +69,8 @@ modeOf zero = None
 modeOf (suc zero) = Fast
 modeOf (suc (suc n)) = Slow
 
-abbrev pub sixteenAt : List ℕ → ℕ → List ℕ
-sixteenAt ws k = tab 16 (λ o. getD ws (k + o) 0)
+abbrev pub sixteenWords : List ℕ → ℕ → List ℕ
+sixteenWords ws k = tab 16 (λ o. getD ws (k + o) 0)
 
 unfoldable pub slotOf : List ℕ → ℕ → Slot
 slotOf ws o =
@@ -84,7 +83,7 @@ slotOf ws o =
             members = setAt ws (slotPlace o + 3);
             start = getD ws (numbersPlace o) 0;
             number = getD ws (numbersPlace o + 1) 0;
-            used = sixteenAt ws (numbersPlace o + 2);
+            used = sixteenWords ws (numbersPlace o + 2);
           };
     }
 
@@ -95,11 +94,11 @@ stateOf ws =
       mode = modeOf (getD ws modePlace 0);
       net = setAt ws netPlace;
       stored = tab 16 (slotOf ws);
-      accepted = sixteenAt ws acceptedPlace;
-      view = record { number = getD ws viewPlace 0; members = setAt ws membersPlace; starts = sixteenAt ws startsPlace };
+      accepted = sixteenWords ws acceptedPlace;
+      view = record { number = getD ws viewPlace 0; members = setAt ws membersPlace; starts = sixteenWords ws startsPlace };
       start = getD ws startPlace 0;
       number = getD ws numberPlace 0;
-      used = sixteenAt ws usedPlace;
+      used = sixteenWords ws usedPlace;
     }
 
 -- writing
@@ -134,100 +133,14 @@ pub record Row (ws : List ℕ) : Type 0 where
 unfoldable pub isRow : List ℕ → Bool
 isRow ws = eqb (length ws) rowLength && leb (getD ws modePlace 0) 2 && allb 16 (λ o. leb (getD ws (slotPlace o) 0) 1)
 
--- a state whose lists have their lengths: just such a state is held by its words
-pub record Shaped (s : State) : Type 0 where
-  pub stored : length (s .stored) ≡ 16
-  pub accepted : length (s .accepted) ≡ 16
-  pub used : length (s .used) ≡ 16
-  pub starts : length (s .view .starts) ≡ 16
-  pub slots : (o : ℕ) → length (storedAt s o .proposal .used) ≡ 16
-
 -- a row whose state passes check 2
 unfoldable pub soundRow : List ℕ → Bool
 soundRow ws = isRow ws && wellFormed (stateOf ws)
 
--- a row whose numbers are all so low that no event makes one above L
 -- the numbers stand side by side
 abbrev pub numbersCount : ℕ
 numbersCount = 339
 
-abbrev pub low : ℕ
-low = 1_073_741_823
-
+-- a row whose numbers are all so low that no event makes one above L
 unfoldable pub lowRow : List ℕ → Bool
 lowRow ws = isRow ws && leb (getD ws ownPlace 0) 15 && allb numbersCount (λ k. leb (getD ws (startPlace + k) 0) low)
-
-pub record Low (s : State) : Type 0 where
-  pub own : s .own < 16
-  pub view : s .view .number ≤ low
-  pub start : s .start ≤ low
-  pub number : s .number ≤ low
-  pub stored : (o : ℕ) → o < 16 → (inSlot s o .start ≤ low) × (inSlot s o .number ≤ low)
-
--- changes of a state
-abbrev pub withMode : Mode → State → State
-withMode m s =
-    record { own = s .own; mode = m; net = s .net; stored = s .stored; accepted = s .accepted; view = s .view; start = s .start; number = s .number; used = s .used }
-
-abbrev pub withNetSet : SeatSet → State → State
-withNetSet x s =
-    record { own = s .own; mode = s .mode; net = x; stored = s .stored; accepted = s .accepted; view = s .view; start = s .start; number = s .number; used = s .used }
-
-abbrev pub withStart : ℕ → State → State
-withStart n s =
-    record { own = s .own; mode = s .mode; net = s .net; stored = s .stored; accepted = s .accepted; view = s .view; start = n; number = s .number; used = s .used }
-
-abbrev pub withNumber : ℕ → State → State
-withNumber n s =
-    record { own = s .own; mode = s .mode; net = s .net; stored = s .stored; accepted = s .accepted; view = s .view; start = s .start; number = n; used = s .used }
-
-abbrev pub withView : View → State → State
-withView v s =
-    record { own = s .own; mode = s .mode; net = s .net; stored = s .stored; accepted = s .accepted; view = v; start = s .start; number = s .number; used = s .used }
-
-abbrev pub withStored : ℕ → Slot → State → State
-withStored o v s =
-    record {
-      own = s .own;
-      mode = s .mode;
-      net = s .net;
-      stored = tab 16 (upd (storedAt s) o v);
-      accepted = s .accepted;
-      view = s .view;
-      start = s .start;
-      number = s .number;
-      used = s .used;
-    }
-
-abbrev pub withAccepted : ℕ → ℕ → State → State
-withAccepted o n s =
-    record {
-      own = s .own;
-      mode = s .mode;
-      net = s .net;
-      stored = s .stored;
-      accepted = tab 16 (upd (acceptedAt s) o n);
-      view = s .view;
-      start = s .start;
-      number = s .number;
-      used = s .used;
-    }
-
-abbrev pub withUsed : ℕ → ℕ → State → State
-withUsed o n s =
-    record {
-      own = s .own;
-      mode = s .mode;
-      net = s .net;
-      stored = s .stored;
-      accepted = s .accepted;
-      view = s .view;
-      start = s .start;
-      number = s .number;
-      used = tab 16 (upd (usedAt s) o n);
-    }
-
--- what a call that changes a row leaves: the state changed by f, in a row
-pub record Changed (f : State → State) (before after : List ℕ) : Type 0 where
-  pub is : stateOf after ≡ f (stateOf before)
-  pub row : Row after

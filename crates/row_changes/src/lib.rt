@@ -14,8 +14,9 @@ ghost use lib.ListN.{length};
 ghost use lib.Seq.{sets};
 ghost use Rattle.rules.specs.Rules.{fresh};
 ghost use Rattle.rules.specs.State.{nothing, keeping};
-ghost use Rattle.row.specs.Row.{rowLength, Row, Changed, wordsOf, modeOf, setWords, slotPlace, numbersPlace};
-ghost use Rattle.row.specs.Row.{withMode, withNetSet, withStart, withNumber, withView, withStored, withAccepted, withUsed};
+ghost use Rattle.row.specs.Row.{rowLength, Row, wordsOf, modeOf, setWords, slotPlace, numbersPlace};
+ghost use Rattle.row.specs.Changes.{Changed};
+ghost use Rattle.row.specs.Changes.{withMode, withNetSet, withStart, withNumber, withView, withStored, withAccepted, withUsed};
 
 pub fn set_mode(s: &mut [u32], kind: u8)
     requires { ⌜ Row (now s) × (kind ≤ 2) ⌝ }

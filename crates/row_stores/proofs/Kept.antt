@@ -1,11 +1,10 @@
 -- Which parts of a row a run of stores leaves as they were.
-use mathlib.Core.Path.{_≡_, refl, ap, _∙_}
+use mathlib.Core.Path.{_≡_, ap, _∙_}
 use mathlib.Core.Bool.{Bool, true, _&&_, _||_}
 use mathlib.Core.Logic.{_⊎_, inl, inr}
 use mathlib.Core.List.{List}
-use Prim.Native.Nat.{ℕ, _+_, _*_, _<_, _≤_}
+use Prim.Native.Nat.{ℕ, _+_, _<_, _≤_}
 use native.Mathlib.Omega.{arith}
-use native.Mathlib.Decide.{decLt}
 use lib.ListN.{length, getD}
 use lib.Seq.{sets, length-sets}
 use lib.Dec.{leb}
@@ -13,19 +12,10 @@ use borrow.Author.Tests.{leb-true}
 use Rattle.laws.proofs.Fin.{and-l, and-r, or-cases}
 use Rattle.laws.specs.Tab.{tab}
 use Rattle.laws.proofs.Tab.{tab-ext}
-use Rattle.laws.proofs.Seqs.{getD-sets-low, getD-sets-high, getD-sets-at}
+use Rattle.laws.proofs.Seqs.{getD-sets-at, getD-sets-out}
 use Rattle.row.specs.Row.{ownPlace, modePlace, netPlace, membersPlace, slotPlace, startPlace, numberPlace, viewPlace, startsPlace, acceptedPlace, usedPlace, numbersPlace}
-use Rattle.row.specs.Row.{setAt, modeOf, sixteenAt, slotOf, Row}
+use Rattle.row.specs.Row.{setAt, modeOf, sixteenWords, slotOf, Row}
 use Rattle.row.proofs.Parts.{viewAt}
-
--- outside a run of stores
-sets-out : (vs l : List ℕ) (i k : ℕ) → (i ≤ k → k < i + length vs → ⊥) → getD (sets l i vs) k 0 ≡ getD l k 0
-sets-out vs l i k h = go (decLt k i) (decLt k (i + length vs))
-  where
-    go : Dec (k < i) → Dec (k < i + length vs) → getD (sets l i vs) k 0 ≡ getD l k 0
-    go (yes a) b = getD-sets-low vs l i k 0 a
-    go (no a) (yes b) = absurd (h (omega arith) b)
-    go (no a) (no b) = getD-sets-high vs l i k 0 (omega arith)
 
 -- Two runs of stores, xs from i on and then ys from j on; one store is a run, and a run may be empty.
 module _ (ws : List ℕ) (i : ℕ) (xs : List ℕ) (j : ℕ) (ys : List ℕ) where
@@ -41,14 +31,14 @@ module _ (ws : List ℕ) (i : ℕ) (xs : List ℕ) (j : ℕ) (ys : List ℕ) whe
 
   pub word-kept : (k : ℕ) → Clear k 1 → getD stores k 0 ≡ getD ws k 0
   word-kept k h =
-      sets-out ys (sets ws i xs) j k (λ a b. h .1 (omega arith) b) ∙ sets-out xs ws i k (λ a b. h .0 (omega arith) b)
+      getD-sets-out ys (sets ws i xs) j k 0 (λ a b. h .1 (omega arith) b) ∙ getD-sets-out xs ws i k 0 (λ a b. h .0 (omega arith) b)
 
   set-kept : (k : ℕ) → Clear k 2 → setAt stores k ≡ setAt ws k
   unfolding setAt
   set-kept k h =
       rw (word-kept k (part-clear k 2 k 1 h (omega arith) (omega arith)), word-kept (k + 1) (part-clear k 2 (k + 1) 1 h (omega arith) (omega arith)))
 
-  sixteen-kept : (k : ℕ) → Clear k 16 → sixteenAt stores k ≡ sixteenAt ws k
+  sixteen-kept : (k : ℕ) → Clear k 16 → sixteenWords stores k ≡ sixteenWords ws k
   sixteen-kept k h =
       tab-ext 16 (λ o. getD stores (k + o) 0) (λ o. getD ws (k + o) 0)
       (λ o l. word-kept (k + o) (part-clear k 16 (k + o) 1 h (omega arith) (omega arith)))
@@ -84,7 +74,7 @@ module _ (ws : List ℕ) (i : ℕ) (xs : List ℕ) (j : ℕ) (ys : List ℕ) whe
 
   -- in the first run, and in the second
   pub in-first : (p k : ℕ) → p ≡ i + k → k < length xs → i + length xs ≤ length ws → (j ≤ p → p < j + length ys → ⊥) → getD stores p 0 ≡ getD xs k 0
-  in-first p k e l z h = sets-out ys (sets ws i xs) j p h ∙ rw e (getD-sets-at xs ws i k 0 l z)
+  in-first p k e l z h = getD-sets-out ys (sets ws i xs) j p 0 h ∙ rw e (getD-sets-at xs ws i k 0 l z)
 
   pub in-second : (p k : ℕ) → p ≡ j + k → k < length ys → j + length ys ≤ length ws → getD stores p 0 ≡ getD ys k 0
   in-second p k e l z = let n = length-sets ws i xs in rw e (getD-sets-at ys (sets ws i xs) j k 0 l (omega arith))
@@ -95,11 +85,11 @@ module _ (ws : List ℕ) (i : ℕ) (xs : List ℕ) (j : ℕ) (ys : List ℕ) whe
     pub mode : free modePlace 1 ≡ true → modeOf (getD stores modePlace 0) ≡ modeOf (getD ws modePlace 0)
     pub net : free netPlace 2 ≡ true → setAt stores netPlace ≡ setAt ws netPlace
     pub stored : free (slotPlace 0) 80 && free (numbersPlace 0) 288 ≡ true → tab 16 (slotOf stores) ≡ tab 16 (slotOf ws)
-    pub accepted : free acceptedPlace 16 ≡ true → sixteenAt stores acceptedPlace ≡ sixteenAt ws acceptedPlace
+    pub accepted : free acceptedPlace 16 ≡ true → sixteenWords stores acceptedPlace ≡ sixteenWords ws acceptedPlace
     pub view : free membersPlace 2 && free viewPlace 17 ≡ true → viewAt stores ≡ viewAt ws
     pub start : free startPlace 1 ≡ true → getD stores startPlace 0 ≡ getD ws startPlace 0
     pub number : free numberPlace 1 ≡ true → getD stores numberPlace 0 ≡ getD ws numberPlace 0
-    pub used : free usedPlace 16 ≡ true → sixteenAt stores usedPlace ≡ sixteenAt ws usedPlace
+    pub used : free usedPlace 16 ≡ true → sixteenWords stores usedPlace ≡ sixteenWords ws usedPlace
     pub modeWord : free modePlace 1 ≡ true → Row ws → getD stores modePlace 0 ≤ 2
     pub flags : free (slotPlace 0) 80 ≡ true → Row ws → (o : ℕ) → o < 16 → getD stores (slotPlace o) 0 ≤ 1
 

@@ -1,16 +1,13 @@
 -- The stores of a row, as changes of the state that it holds: once for each family of places.
 use mathlib.Core.Path.{_≡_, refl, sym, ap, _∙_}
-use mathlib.Core.Bool.{Bool, true, false, not}
 use mathlib.Core.List.{List, [], _∷_}
-use Prim.Native.Nat.{ℕ, suc, _+_, _*_, _/_, _%_, _<_, _≤_}
+use Prim.Native.Nat.{ℕ, suc, _+_, _<_, _≤_}
 use native.Mathlib.Omega.{arith}
 use native.Mathlib.Decide.{ℕ-discrete}
 use lib.ListN.{length, getD, set}
-use lib.Seq.{sets, length-sets, ext-getD, getD-set-same, getD-set-other}
-use Rattle.laws.proofs.Seqs.{getD-sets-at}
-use lib.Dec.{eqb}
+use lib.Seq.{sets, getD-set-same, getD-set-other}
 use Rattle.laws.specs.Tab.{tab}
-use Rattle.laws.proofs.Tab.{tab-ext, getD-tab, filled}
+use Rattle.laws.proofs.Tab.{tab-ext, getD-tab}
 use Rattle.laws.specs.Upd.{upd}
 use Rattle.laws.proofs.Upd.{upd-same, upd-other}
 use Rattle.seats.specs.declared.SeatSet.{SeatSet}
@@ -18,37 +15,25 @@ use Rattle.records.specs.declared.View.{View}
 use Rattle.rules.specs.State.{State, Slot, storedAt}
 use Rattle.rules.specs.Rules.{fresh}
 use Rattle.row.specs.Row.{rowLength, ownPlace, modePlace, netPlace, membersPlace, slotPlace, startPlace, numberPlace, viewPlace, startsPlace, acceptedPlace, usedPlace, numbersPlace}
-use Rattle.row.specs.Row.{word, flag, setWords, slotWords, slotNumbers, setAt, modeOf, sixteenAt, slotOf, stateOf, wordsOf, Row, Changed, withMode, withNetSet, withStart, withNumber, withView, withStored, withAccepted, withUsed}
-use Rattle.row.proofs.Parts.{viewAt, by-parts, stored-is, set-read, sixteen-read, flag-le, slot-read}
+use Rattle.row.specs.Row.{setWords, slotWords, slotNumbers, modeOf, sixteenWords, slotOf, stateOf, wordsOf, Row}
+use Rattle.row.specs.Changes.{Changed, withMode, withNetSet, withStart, withNumber, withView, withStored, withAccepted, withUsed}
+use Rattle.row.proofs.Parts.{viewAt, by-parts, row-stored, set-read, sixteen-read, flag-le, slot-read}
 use Rattle.row_stores.proofs.Kept.{kept, in-first, in-second, stores-long, word-kept, slot-kept}
 
 -- one change after another
 pub then : {f g : State → State} {a b c : List ℕ} → Changed f a b → Changed g b c → Changed (λ s. g (f s)) a c
 then {f} {g} p q = record { is = q .is ∙ ap g (p .is); row = q .row }
 
--- two stores and a run, from a place on
-pub put-two : (l vs : List ℕ) (at a b : ℕ) → sets (set (set l at a) (at + 1) b) (at + 2) vs ≡ sets l at (a ∷ b ∷ vs)
-put-two l vs at a b =
-    let e : at + 1 ≡ suc at = omega arith in
-    let f : at + 2 ≡ suc (suc at) = omega arith in
-    rw (e, f)
-
--- a run as long as the list
-pub put-all : (vs l : List ℕ) → length l ≡ length vs → sets l 0 vs ≡ vs
-put-all vs l e =
-    ext-getD 0 (sets l 0 vs) vs (length-sets l 0 vs ∙ e)
-    (λ k h. let n = length-sets l 0 vs in let q : 0 + k ≡ k = omega arith in rw q at (getD-sets-at vs l 0 k 0 (omega arith) (omega arith)))
-
 -- one number of sixteen
 sixteen-set : (ws : List ℕ) (k o n : ℕ) → k + 16 ≤ length ws → o < 16
-    → sixteenAt (set ws (k + o) n) k ≡ tab 16 (upd (λ j. getD (sixteenAt ws k) j 0) o n)
+    → sixteenWords (set ws (k + o) n) k ≡ tab 16 (upd (λ j. getD (sixteenWords ws k) j 0) o n)
 sixteen-set ws k o n z lt =
-    tab-ext 16 (λ j. getD (set ws (k + o) n) (k + j) 0) (upd (λ j. getD (sixteenAt ws k) j 0) o n) (λ j h. go j h (ℕ-discrete j o))
+    tab-ext 16 (λ j. getD (set ws (k + o) n) (k + j) 0) (upd (λ j. getD (sixteenWords ws k) j 0) o n) (λ j h. go j h (ℕ-discrete j o))
   where
-    go : (j : ℕ) → j < 16 → Dec (j ≡ o) → getD (set ws (k + o) n) (k + j) 0 ≡ upd (λ j. getD (sixteenAt ws k) j 0) o n j
-    go j h (yes e) = rw (e, upd-same (λ j. getD (sixteenAt ws k) j 0) o n) (getD-set-same ws (k + o) n 0 (omega arith))
+    go : (j : ℕ) → j < 16 → Dec (j ≡ o) → getD (set ws (k + o) n) (k + j) 0 ≡ upd (λ j. getD (sixteenWords ws k) j 0) o n j
+    go j h (yes e) = rw (e, upd-same (λ j. getD (sixteenWords ws k) j 0) o n) (getD-set-same ws (k + o) n 0 (omega arith))
     go j h (no q) =
-        rw (upd-other (λ j. getD (sixteenAt ws k) j 0) o n j q)
+        rw (upd-other (λ j. getD (sixteenWords ws k) j 0) o n j q)
         (getD-set-other ws (k + o) (k + j) n 0 (λ e. q (omega arith)) ∙ sym (getD-tab 16 (λ j. getD ws (k + j) 0) j 0 h))
 
 pub mode-changed : (ws : List ℕ) (n : ℕ) → Row ws → n ≤ 2
@@ -231,7 +216,7 @@ module _ (ws : List ℕ) (o : ℕ) (v : Slot) (z : length ws ≡ rowLength) (lt 
     where
       go : Dec (k ≡ o) → slotOf slotStored k ≡ upd (storedAt (stateOf ws)) o v k
       go (yes e) = rw (e, upd-same (storedAt (stateOf ws)) o v) slot-here
-      go (no q) = rw (upd-other (storedAt (stateOf ws)) o v k q, stored-is ws k h) (slot-kept ws (slotPlace o) (slotWords v) (numbersPlace o) (slotNumbers v) k (λ a b. q (omega arith), λ a b. omega arith) (λ a b. omega arith, λ a b. q (omega arith)))
+      go (no q) = rw (upd-other (storedAt (stateOf ws)) o v k q, row-stored ws k h) (slot-kept ws (slotPlace o) (slotWords v) (numbersPlace o) (slotNumbers v) k (λ a b. q (omega arith), λ a b. omega arith) (λ a b. omega arith, λ a b. q (omega arith)))
 
   slot-flag : Row ws → (k : ℕ) → k < 16 → getD slotStored (slotPlace k) 0 ≤ 1
   slot-flag r k h = go (ℕ-discrete k o)

@@ -6,6 +6,8 @@ use mathlib.Core.Logic.{_⊎_, inl, inr}
 use mathlib.Core.List.{List}
 use Prim.Native.Nat.{ℕ, _<_}
 use lib.ListN.{getD}
+use Rattle.laws.specs.Lists.{Every, none, more}
+use Rattle.laws.proofs.Lists.{every-append, every-map}
 use Rattle.laws.proofs.Tab.{getD-tab}
 use Rattle.laws.proofs.Upd.{upd-other}
 use Rattle.seats.specs.Seats.{serves}
@@ -19,7 +21,7 @@ use Rattle.rules.proofs.Parts.{opened-reads, proposed-reads, concluded-
 use Rattle.rules.proofs.Tests.{agreed-out}
 use Rattle.rules.proofs.Steps.{Refused, Accepts, step-cases, step-accepts}
 use Rattle.rules.proofs.Walk.{arrived, concludes, Walk, walk-event}
-use Rattle.rules.proofs.Written.{Every, none, more, every-append, every-map, fast-every, NoView}
+use Rattle.rules.proofs.Written.{fast-every, NoView}
 
 -- from the state s that arrived to the state t left, p is the proposal of office o that the view v counted
 pub record Counts (s t : State) (v : View) (o : ℕ) (p : Proposal) : Type 0 where

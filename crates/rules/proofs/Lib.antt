@@ -10,4 +10,7 @@ pub mod Reasons
 pub mod Counted
 pub mod Monotone
 pub mod Sizes
+pub mod Exits
+pub mod Checking
+pub mod Shapes
 pub mod Days

@@ -38,12 +38,6 @@ pub data Ascending : ℕ → List Written → ℕ → Type 0 where
   past-view : {n m : ℕ} {x : View} {ws : List Written} → Ascending n ws m → Ascending n (view x ∷ ws) m
   past-proposal : {n m : ℕ} {p : Proposal} {ws : List Written} → n < p .number → Ascending (p .number) ws m → Ascending n (proposal p ∷ ws) m
 
-pub ascending-le : {n m : ℕ} {ws : List Written} → Ascending n ws m → n ≤ m
-ascending-le (at-end h) = h
-ascending-le (past-notice r) = ascending-le r
-ascending-le (past-view r) = ascending-le r
-ascending-le (past-proposal h r) = let a = ascending-le r in omega arith
-
 ascending-from : {n k m : ℕ} {ws : List Written} → n ≤ k → Ascending k ws m → Ascending n ws m
 ascending-from l (at-end h) = at-end (le-trans l h)
 ascending-from l (past-notice r) = past-notice (ascending-from l r)

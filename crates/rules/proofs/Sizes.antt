@@ -2,7 +2,7 @@
 use mathlib.Core.Path.{_≡_, refl, sym, ap, _∙_}
 use mathlib.Core.Bool.{Bool, true, false, _||_}
 use mathlib.Core.Logic.{_⊎_, inl, inr}
-use mathlib.Core.List.{List, [], _∷_, _++_}
+use mathlib.Core.List.{List, [], _∷_, _++_, append-assoc, append-nil}
 use Prim.Native.Nat.{ℕ, _+_, _≤_, _<_, max}
 use native.Mathlib.Omega.{arith}
 use lib.ListN.{length, length-append}
@@ -29,22 +29,24 @@ use Rattle.rules.proofs.Monotone.{next-above-stored}
 use Rattle.rules.proofs.Parts.{proposed-reads}
 use Rattle.rules.proofs.Tests.{Agreeing, agreed-in, agreed-out, slow-above}
 
-size-append : (a b : List Written) → size (a ++ b) ≡ size a + size b
+pub bytes-append : (a b : List Written) → allBytes (a ++ b) ≡ allBytes a ++ allBytes b
 unfolding allBytes
-size-append [] b = omega arith
-size-append (w ∷ a) b =
-    let e = size-append a b in
-    let f = length-append (bytesOf w) (allBytes (a ++ b)) in
-    let g = length-append (bytesOf w) (allBytes a) in
-    omega arith
+bytes-append [] b = refl
+bytes-append (w ∷ a) b = ap (λ (l : List ℕ). bytesOf w ++ l) (bytes-append a b) ∙ sym (append-assoc (bytesOf w) (allBytes a) (allBytes b))
+
+pub size-append : (a b : List Written) → size (a ++ b) ≡ size a + size b
+size-append a b = ap length (bytes-append a b) ∙ length-append (allBytes a) (allBytes b)
+
+pub bytes-one : (w : Written) → allBytes (w ∷ []) ≡ bytesOf w
+unfolding allBytes
+bytes-one w = append-nil (bytesOf w)
 
 then-size : (o : Outcome) (f : State → Outcome) → size (andThen o f .written) ≡ size (o .written) + size (f (o .state) .written)
 unfolding andThen
 then-size o f = size-append (o .written) (f (o .state) .written)
 
 size-one : (w : Written) → size (w ∷ []) ≡ length (bytesOf w)
-unfolding allBytes
-size-one w = let f = length-append (bytesOf w) [] in omega arith
+size-one w = ap length (bytes-one w)
 
 -- each part: a notice, a proposal, a view
 opens-size : (s : State) → size (opens s .written) ≡ noticeLength

@@ -1,8 +1,8 @@
 -- The checks as plain facts, and the step by cases: refused, or accepted with what is then known.
-use mathlib.Core.Path.{_≡_, refl, ap, _∙_}
+use mathlib.Core.Path.{_≡_, refl, ap}
 use mathlib.Core.Bool.{Bool, true, false, _&&_, not}
 use mathlib.Core.Logic.{_⊎_, inl, inr, _↔_}
-use mathlib.Core.List.{List, [], _∷_}
+use mathlib.Core.List.{List}
 use Prim.Native.Nat.{ℕ, suc, _≤_, _<_}
 use native.Mathlib.Omega.{arith}
 use native.Mathlib.Decide.{ℕ-discrete}
@@ -10,17 +10,15 @@ use lib.ListN.{getD}
 use lib.Dec.{eqb, ltb}
 use borrow.Author.Tests.{ltb-false, leb-false, eqb-true, not-false, le-ltb, lt-leb, ne-eqb}
 use Rattle.laws.proofs.Fin.{anyb-none, none-anyb, as-facts, or-cases, true-false}
+use Rattle.laws.proofs.Tab.{getD-tab}
 use Rattle.laws.specs.Upd.{ifb}
 use Rattle.seats.specs.Seats.{serves}
-use Rattle.records.specs.Layout.{encodeReport, encodeProposal, checkOf}
-use Rattle.records.specs.Fits.{FitsReport, FitsProposal}
-use Rattle.records.proofs.RoundTrip.{proposal-back, report-checked, proposal-checked}
-use Rattle.records.specs.declared.Report.{Report}
+use Rattle.records.specs.Layout.{checkOf}
 use Rattle.records.specs.declared.Proposal.{Proposal}
 use Rattle.rules.specs.State.{Slot, State, fast, slow, storedAt, acceptedAt, usedAt, usedFor}
-use Rattle.rules.proofs.Encoded.{report-event, proposal-event}
-use Rattle.rules.specs.Rules.{Outcome}
-use Rattle.rules.specs.Refusals.{limit, fullRoom, within, slotWithin, wellFormed, firstOf, unreadable, Event, aReport, aProposal, eventOf, wrongSender}
+use Rattle.rules.specs.Rules.{Outcome, fresh}
+use Rattle.rules.proofs.Parts.{fresh-reads}
+use Rattle.rules.specs.Refusals.{limit, fullRoom, within, slotWithin, wellFormed, firstOf, unreadable, Event, eventOf, wrongSender}
 use Rattle.rules.specs.Refusals.{wrongKind, wrongNumber, withoutSeat, strayUsed, notAbove, usedAhead, proposalChecks, refusalOf, ruleOf, Result}
 use Rattle.rules.specs.Refusals.{refused, accepting, actOf, stepOf}
 
@@ -74,6 +72,27 @@ facts-well s h =
     let own : s .own ≤ 15 = omega arith in
     simp as-facts
     (((((((own, h .view), h .start), h .number), h .starts), h .accepted), h .used), λ o l. facts-slot (storedAt s o) (h .stored o l))
+
+-- a fresh state passes check 2
+pub fresh-well : (own : ℕ) → own < 16 → wellFormed (fresh own) ≡ true
+fresh-well own lt =
+    let r = fresh-reads own in
+    facts-well (fresh own) (record {
+      own = let a = r .own-is in omega arith;
+      view = let a = view in omega arith;
+      start = let a = r .start-is in omega arith;
+      number = let a = r .number-is in omega arith;
+      starts = λ o l. let a = starts o l in omega arith;
+      accepted = λ o l. let a = r .accepted-is o l in omega arith;
+      used = λ o l. let a = r .used-is o l in omega arith;
+      stored = λ o l p. absurd (true-false _ p (ap (λ (v : Slot). v .present) (r .stored-is o l)));
+    })
+  where
+    view : fresh own .view .number ≡ 0
+    view = unfold fresh in refl
+
+    starts : (o : ℕ) → o < 16 → getD (fresh own .view .starts) o 0 ≡ 0
+    starts o l = unfold fresh in getD-tab 16 (λ k. 0) o 0 l
 
 -- what a proposal that passes checks 6 to 12 satisfies
 pub record Passes (s : State) (p : Proposal) : Type 0 where
@@ -239,29 +258,10 @@ zero-accepts s b room z = go (step-cases s b room)
     go (inl r) = absurd (r .reason z)
     go (inr a) = a
 
--- and leaves a state that passes check 2
+-- an accepted step leaves a state that passes check 2
 pub step-well : (s : State) (b : List ℕ) (room : ℕ) → wellFormed s ≡ true → wellFormed (stepOf s b room .state) ≡ true
 step-well s b room w = go (step-cases s b room)
   where
     go : Refused s (stepOf s b room) ⊎ Accepts s b room → wellFormed (stepOf s b room .state) ≡ true
     go (inl r) = rw (r .is) w
     go (inr a) = rw (step-accepts s b room a) (a .acts .within)
-
--- checks 2 and 3 alone, and an event that meets them: what the step is on the bytes of a record that fits
-unfoldable pub unready : State → ℕ → ℕ
-unready s room =
-    firstOf (record { number = 2; applies = not (wellFormed s) } ∷ record { number = 3; applies = ltb room fullRoom } ∷ [])
-
-unfoldable pub onEvent : State → Event → ℕ → Result
-onEvent s e room = ifb (eqb (unready s room) 0) (actOf s e) (refused (unready s room) s)
-
-step-on-event : (s : State) (b : List ℕ) (e : Event) (room : ℕ) → checkOf b ≡ 0 → eventOf b ≡ e → stepOf s b room ≡ onEvent s e room
-unfolding stepOf onEvent unready unreadable
-step-on-event s b e room c q = rw (c, q)
-
-pub step-report : (s : State) (r : Report) (room : ℕ) → FitsReport r → stepOf s (encodeReport r) room ≡ onEvent s (aReport r) room
-step-report s r room f = step-on-event s (encodeReport r) (aReport r) room (report-checked r) (report-event r f)
-
-pub step-proposal : (s : State) (p : Proposal) (room : ℕ) → FitsProposal p → stepOf s (encodeProposal p) room ≡ onEvent s (aProposal p) room
-step-proposal s p room f = step-on-event s (encodeProposal p) (aProposal p) room (proposal-checked p f)
-    (proposal-event p ∙ ap aProposal (proposal-back p f))

@@ -5,9 +5,9 @@ use mathlib.Core.Logic.{⊎-elim}
 use Prim.Native.Nat.{ℕ, _≤_, _<_}
 use native.Mathlib.Omega.{arith}
 use lib.Dec.{eqb}
-use borrow.Author.Tests.{eqb-true, eqb-false, eq-eqb, ne-eqb, ltb-true, lt-ltb, not-true}
+use borrow.Author.Tests.{eqb-true, eq-eqb, ne-eqb, ltb-true, lt-ltb}
 use Rattle.laws.specs.Fin.{anyb, largest}
-use Rattle.laws.proofs.Fin.{and-l, and-r, and-in, or-l, or-r, or-cases, true-false, allb-out, allb-in, anyb-out, anyb-none, largest-max, largest-le, if-cases}
+use Rattle.laws.proofs.Fin.{as-facts, and-l, and-r, and-in, or-l, or-r, or-cases, true-false, allb-out, allb-in, anyb-out, anyb-none, largest-max, largest-le, if-cases}
 use Rattle.laws.specs.Upd.{ifb}
 use Rattle.seats.specs.Seats.{serves}
 use Rattle.rules.specs.State.{Mode, None, Fast, Slow, State, slow, kindOf, storedAt, usedFor}
@@ -23,12 +23,8 @@ module _ (s : State) where
   pub matching-out : (o : ℕ) → matching s o ≡ true → Matching o
   unfolding matching
   matching-out o e =
-      let a = and-l (not (eqb o (s .own)) && storedAt s o .present) _ e in
-      record {
-        another = eqb-false _ _ (not-true _ (and-l (not (eqb o (s .own))) _ a));
-        is-there = and-r (not (eqb o (s .own))) _ a;
-        same-members = eqb-true _ _ (and-r (not (eqb o (s .own)) && storedAt s o .present) _ e);
-      }
+      let f = simp as-facts at e in
+      record { another = f .0 .0; is-there = f .0 .1; same-members = f .1 }
 
   pub matching-in : (o : ℕ) → Matching o → matching s o ≡ true
   unfolding matching

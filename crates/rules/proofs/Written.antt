@@ -6,6 +6,8 @@ use mathlib.Core.List.{List, [], _∷_, _++_, append-nil}
 use Prim.Native.Nat.{ℕ, _≤_, _<_}
 use native.Mathlib.Omega.{arith}
 use lib.ListN.{getD}
+use Rattle.laws.specs.Lists.{Every, none, more}
+use Rattle.laws.proofs.Lists.{every-append}
 use Rattle.laws.proofs.Fin.{if-cases}
 use Rattle.laws.proofs.Tab.{getD-tab}
 use Rattle.seats.specs.Seats.{serves}
@@ -20,19 +22,6 @@ use Rattle.rules.proofs.Tests.{agreed-out, next-above, slow-above}
 use Rattle.rules.proofs.Steps.{SlotWithin, Refused, Accepts, well-facts, step-cases, step-accepts}
 use Rattle.rules.proofs.Walk.{concludes, Walk, walk-event}
 use Rattle.rules.proofs.Ceiling.{Copied, MadeWithin, Copies, copying, copies-then, made-within, view-starts, arrived-copied, well-copied, accepted-fits}
-
--- R holds of each entry of a list
-pub data Every {A : Type 0} (R : A → Type 0) : List A → Type 0 where
-  none : Every R []
-  more : {a : A} {l : List A} → R a → Every R l → Every R (a ∷ l)
-
-pub every-append : {A : Type 0} {R : A → Type 0} {a b : List A} → Every R a → Every R b → Every R (a ++ b)
-every-append none f = f
-every-append (more r e) f = more r (every-append e f)
-
-pub every-map : {A : Type 0} {R S : A → Type 0} {l : List A} → ((a : A) → R a → S a) → Every R l → Every S l
-every-map f none = none
-every-map f (more r e) = more (f _ r) (every-map f e)
 
 -- the fast proposal, written or not
 pub fast-every : (R : Written → Type 0) (s : State) → R (proposal (ownProposal Fast (nextNumber s) s)) → Every R (proposesFast s .written)

@@ -1,4 +1,5 @@
 pub mod State
 pub mod Rules
 pub mod Refusals
+pub mod Bounds
 pub mod Days

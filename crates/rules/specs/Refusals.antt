@@ -7,7 +7,7 @@ use lib.Dec.{eqb, ltb, leb}
 use Rattle.laws.specs.Fin.{allb, anyb}
 use Rattle.laws.specs.Upd.{ifb}
 use Rattle.seats.specs.Seats.{serves}
-use Rattle.records.specs.Layout.{checkOf, markOf, decodeReport, decodeProposal, encodeProposal, encodeNotice, encodeView}
+use Rattle.records.specs.Layout.{reportMark, valueOf, checkOf, markOf, decodeReport, decodeProposal, encodeProposal, encodeNotice, encodeView}
 use Rattle.records.specs.declared.Report.{Report}
 use Rattle.records.specs.declared.Proposal.{Proposal}
 use Rattle.rules.specs.State.{Slot, State, fast, slow, storedAt, acceptedAt, usedAt, usedFor}
@@ -67,7 +67,7 @@ pub data Event : Type 0 where
   aProposal : Proposal → Event
 
 unfoldable pub eventOf : List ℕ → Event
-eventOf b = ifb (eqb (markOf b) 0x4e45) (aReport (decodeReport b)) (aProposal (decodeProposal b))
+eventOf b = ifb (eqb (markOf b) (valueOf reportMark)) (aReport (decodeReport b)) (aProposal (decodeProposal b))
 
 -- 6 to 10 look at the proposal and the own office
 unfoldable pub wrongSender : ℕ → Proposal → Bool

@@ -10,9 +10,10 @@ use lib.ListN.{length, take, take-append-drop, length-drop}
 use lib.Seq.{getD-take, length-take-le}
 use lib.Dec.{eqb, ltb}
 use borrow.Author.Tests.{eqb-true, eqb-false, ltb-true, ltb-false, ne-eqb}
+use Rattle.laws.specs.Lists.{none, more}
 use Rattle.records.proofs.CheckLaws.{long-mark, check-passes}
 use Rattle.records.specs.Layout.{reportMark, proposalMark, valueOf, markOf, formFor, formOf, checkFor, checkOf}
-use Rattle.run_reader.specs.Run.{runCheck, runSize, runFirst, runRest, readingIn, readingOf, Ends, none, more, Reads}
+use Rattle.run_reader.specs.Run.{runCheck, runSize, runFirst, runRest, readingIn, readingOf, Ends, WholeReading}
 
 -- what stands in front of a run: nothing, another mark, too few bytes, or a whole record
 pub data Front (w : List ℕ) : Type 0 where
@@ -116,12 +117,12 @@ ends b h = record { none = h; number = go (front b) }
     go (short l n e) = inr (some (inr e), inr e)
     go (whole p l e s) = absurd (omega arith)
 
-reads-in : (n : ℕ) (b : List ℕ) → length b ≤ n → Reads b (readingIn n b)
+reads-in : (n : ℕ) (b : List ℕ) → length b ≤ n → WholeReading b (readingIn n b)
 unfolding readingIn flatten
 reads-in zero b h = let l = size-le b in record { input = refl; records = none; ends = ends b (omega arith); number = refl }
 reads-in (suc n) b h = go (eqb (runSize b) 0) refl (λ p. reads-in n (runRest b) (let l = rest-shorter b p in omega arith))
   where
-    go : (t : Bool) → eqb (runSize b) 0 ≡ t → (0 < runSize b → Reads (runRest b) (readingIn n (runRest b))) → Reads b (readingIn (suc n) b)
+    go : (t : Bool) → eqb (runSize b) 0 ≡ t → (0 < runSize b → WholeReading (runRest b) (readingIn n (runRest b))) → WholeReading b (readingIn (suc n) b)
     go true e ih = rw e (record { input = refl; records = none; ends = ends b (eqb-true (runSize b) 0 e); number = refl })
     go false e ih =
         let p = pos-of-ne-zero (eqb-false (runSize b) 0 e) in
@@ -133,6 +134,6 @@ reads-in (suc n) b h = go (eqb (runSize b) 0) refl (λ p. reads-in n (runRest b)
           number = r .number;
         })
 
-pub reads : (b : List ℕ) → Reads b (readingOf b)
+pub reads : (b : List ℕ) → WholeReading b (readingOf b)
 unfolding readingOf
 reads b = reads-in (length b) b (omega arith)

@@ -6,6 +6,7 @@ use Prim.Native.Nat.{ℕ, zero, suc, _+_}
 use lib.ListN.{length, take, drop}
 use lib.Dec.{eqb, ltb}
 use denote.Ref.{RefT, now}
+use Rattle.laws.specs.Lists.{Every}
 use Rattle.laws.specs.Upd.{ifb}
 use Rattle.records.specs.Layout.{formOf, checkOf}
 
@@ -54,14 +55,10 @@ pub record Ends (b : List ℕ) : Type 0 where
   pub none : runSize b ≡ 0
   pub number : ((b ≡ []) × (runCheck b ≡ 0)) ⊎ ((b ≡ [] → ⊥) × ((runCheck b ≡ 4) ⊎ (runCheck b ≡ 5)))
 
--- each passes checks 4 and 5
-pub data Records : List (List ℕ) → Type 0 where
-  none : Records []
-  more : {p : List ℕ} {l : List (List ℕ)} → checkOf p ≡ 0 → Records l → Records (p ∷ l)
-
--- what a whole reading of b is: the records handed back, in order, and the rest are b; the run ends at the rest, with the number
-pub record Reads (b : List ℕ) (r : Reading) : Type 0 where
+-- what a whole reading of b is: the records handed back, in order, and the rest are b, and each record passes checks 4 and 5; the run ends
+-- at the rest, with the number
+pub record WholeReading (b : List ℕ) (r : Reading) : Type 0 where
   pub input : flatten (r .parts) ++ r .rest ≡ b
-  pub records : Records (r .parts)
+  pub records : Every (λ p. checkOf p ≡ 0) (r .parts)
   pub ends : Ends (r .rest)
   pub number : r .number ≡ runCheck (r .rest)

@@ -13,7 +13,7 @@ use Rattle.rules.specs.Rules.{Outcome}
 use Rattle.rules.specs.Refusals.{wellFormed, unreadable, Event, eventOf, refusalOf, ruleOf, accepting, actOf, Result, stepOf}
 use Rattle.rules.proofs.Steps.{accepted, Refused, Accepts, Passes, check-facts, step-accepts, step-cases}
 use Rattle.rules.proofs.Encoded.{proposal-event, sender-stays}
-use Rattle.runs.specs.World.{World, onProposal}
+use Rattle.runs.specs.World.{World, proposalAnswer}
 use Rattle.runs.proofs.Arrays.{Barred}
 use Rattle.runs.proofs.Proposals.{other-members}
 
@@ -45,8 +45,8 @@ module _ (s : State) (b : List ℕ) (room : ℕ) (e : Event) where
 
 -- a proposal that cannot be one of the net view's members, as its bytes are read: nothing is written
 pub unheard : (w : World) (o room : ℕ) (p : Proposal)
-    → ((q : Proposal) → Passes (w .state o) q → q .sender ≡ p .sender → q .members .bits ≡ w .state o .net .bits → ⊥) → onProposal w o p room .written ≡ []
-unfolding onProposal
+    → ((q : Proposal) → Passes (w .state o) q → q .sender ≡ p .sender → q .members .bits ≡ w .state o .net .bits → ⊥) → proposalAnswer w o p room .written ≡ []
+unfolding proposalAnswer
 unheard w o room p n = go (step-cases s b room)
   where
     s : State

@@ -6,7 +6,8 @@ use mathlib.Core.Logic.{_⊎_}
 use mathlib.Core.List.{List, [], _∷_, _++_}
 use Prim.Native.Nat.{ℕ, _+_, _≤_, _<_}
 use lib.Dec.{eqb}
-use Rattle.laws.specs.Upd.{upd, ifb}
+use Rattle.laws.specs.Lists.{Every}
+use Rattle.laws.specs.Upd.{upd, ifb, upd2}
 use Rattle.laws.specs.Fin.{largest}
 use Rattle.laws.specs.Tab.{tab}
 use Rattle.seats.specs.Seats.{serves}
@@ -15,9 +16,8 @@ use Rattle.records.specs.declared.Proposal.{Proposal}
 use Rattle.records.specs.declared.View.{View}
 use Rattle.rules.specs.State.{Mode, None, Fast, Slow, Slot, fast, slow, kindOf, nothing, keeping, usedFor, numberIn}
 use Rattle.rules.specs.Refusals.{Result}
-use Rattle.runs.specs.World.{Item, SentView, All, World, WorldEvent, report, delivery, loss, without, onReport, Gives}
+use Rattle.runs.specs.World.{Item, SentView, World, WorldEvent, report, delivery, loss, without, reportAnswer, Gives}
 use Rattle.runs.specs.Begins.{InF, Rising}
-use Rattle.runs.proofs.Grid.{upd2}
 
 pub record Offices : Type 0 where
   pub num : ℕ → ℕ  -- the own proposal number
@@ -213,7 +213,7 @@ module _ (F : ℕ → Bool) where
   -- between offices of F only the room or the ceiling refuses.
   pub data Happens (w : World) : WorldEvent → Offices → Offices → Type 0 where
     idles : {e : WorldEvent} {g : Offices} → Apart w e → Happens w e g g
-    refuses : {g : Offices} {me room : ℕ} {r : Report} → InF F me → Barred (onReport w me r room) → Happens w (report me r room) g g
+    refuses : {g : Offices} {me room : ℕ} {r : Report} → InF F me → Barred (reportAnswer w me r room) → Happens w (report me r room) g g
     loses : {g : Offices} {i j place : ℕ} → FromF i j → Happens w (loss i j place) g (relink g i j (without place (g .link i j)))
     drops : {g : Offices} {i j room : ℕ} → FromF i j → (InF F j → (r : Result) × Gives w (delivery i j room) j r × Barred r)
         → Happens w (delivery i j room) g (relink g i j (without 0 (g .link i j)))
@@ -231,7 +231,7 @@ module _ (F : ℕ → Bool) where
     pub rows : (i j : ℕ) → FromF i j → Rising 0 (g .num i) (g .link i j)
     pub rising : (i j : ℕ) → InF F i → InF F j → (i ≡ j → ⊥) → Rising (g .acc j i) (g .num i) (g .link i j)
     -- nobody is told of a number of its own that it has not reached
-    pub told : (i j : ℕ) → InF F i → InF F j → (i ≡ j → ⊥) → All (λ x. usedFor (x .proposal) j ≤ g .num j) (g .link i j)
+    pub told : (i j : ℕ) → InF F i → InF F j → (i ≡ j → ⊥) → Every (λ x. usedFor (x .proposal) j ≤ g .num j) (g .link i j)
     -- what is stored has the number last accepted
     pub kept : (i j : ℕ) → InF F i → InF F j → (i ≡ j → ⊥) → g .stored j i .present ≡ true → other g j i .number ≡ g .acc j i
     pub kept-used : (i j : ℕ) → InF F i → InF F j → (i ≡ j → ⊥) → g .stored j i .present ≡ true → usedFor (other g j i) j ≤ g .num j

@@ -6,6 +6,8 @@ use mathlib.Core.List.{List, _∷_}
 use Prim.Native.Nat.{ℕ, _^_, _≤_, _<_}
 use native.Mathlib.Omega.{arith}
 use native.Mathlib.Decide.{ℕ-discrete}
+use Rattle.laws.specs.Lists.{Every, none}
+use Rattle.laws.proofs.Lists.{every-head, every-tail}
 use Rattle.laws.proofs.Fin.{true-false}
 use Rattle.laws.proofs.Upd.{upd-other}
 use Rattle.seats.specs.Seats.{serves}
@@ -19,16 +21,16 @@ use Rattle.rules.proofs.Steps.{accepted, Refused, Accepts, Passes, well-facts, 
 use Rattle.rules.proofs.Parts.{received-reads}
 use Rattle.rules.proofs.Encoded.{proposal-event, sender-stays}
 use Rattle.rules.proofs.Walk.{staged-proposal}
-use Rattle.runs.specs.World.{Item, World, delivery, All, without, answered, withLink, onProposal, to-proposal, Among}
+use Rattle.runs.specs.World.{Item, World, delivery, without, answered, withLink, proposalAnswer, to-proposal, Among}
 use Rattle.runs.specs.Begins.{InF}
 use Rattle.runs.proofs.Arrays.{Offices, Barred, receive, relink, Arrives, FromF, Numbers, Happens, idles, drops, stores, answers}
-use Rattle.runs.proofs.Links.{all-head, all-tail, rising-head}
-use Rattle.runs.proofs.Grid.{upd2-agree, upd2-cases}
+use Rattle.runs.proofs.Links.{rising-head}
+use Rattle.laws.proofs.Grid.{upd2-agree, upd2-cases}
 use Rattle.runs.proofs.StateArrays.{Sim, sim-receive}
 use Rattle.runs.proofs.RulesArrays.{Moved, moved-none, moving}
-use Rattle.runs.proofs.Proposals.{EachProposal, each-map, no-more, Begun, Makes, makes-proposal, other-members}
+use Rattle.runs.proofs.Proposals.{EachProposal, each-map, Begun, Makes, makes-proposal, other-members}
 use Rattle.runs.proofs.Accepting.{accepted-or-barred}
-use Rattle.runs.proofs.WorldArrays.{Good, Seen, SeenAll, Answer, Linked, seen-moved, seen-linked, below-sixteen}
+use Rattle.runs.proofs.WorldArrays.{Good, Seen, SeenAll, GoodAnswer, Linked, seen-moved, seen-linked, below-sixteen}
 use Rattle.runs.proofs.Valid.{Valid, made-below, made-valid}
 
 module _ (F : ℕ → Bool) where
@@ -46,7 +48,7 @@ module _ (F : ℕ → Bool) where
       kept = λ a n. record { num = refl; mode = refl; net = refl; stored = refl; acc = refl; used = refl };
       same-shown = refl;
       links = outside-link w g i j l seen out;
-      part = λ P h. all-tail (rw front at h);
+      part = λ P h. every-tail (rw front at h);
     }
 
     pub taken-from : (y : ℕ) → FromF F i j → Linked F w g (relink g i j (without 0 (g .link i j))) y i j l
@@ -55,7 +57,7 @@ module _ (F : ℕ → Bool) where
       kept = λ a n. record { num = refl; mode = refl; net = refl; stored = refl; acc = refl; used = refl };
       same-shown = refl;
       links = λ a b c. upd2-agree (w .link) (g .link) i j l (without 0 (g .link i j)) a b (sym (ap (without 0) (sym (seen .links i j f) ∙ front))) (seen .links a b c);
-      part = λ P h. all-tail (rw front at h);
+      part = λ P h. every-tail (rw front at h);
     }
 
   -- a delivery at an office of F: the proposal x, with l behind it, from the office i
@@ -72,7 +74,7 @@ module _ (F : ℕ → Bool) where
     p = decodeProposal bytes
 
     abbrev Acted : Type 0
-    Acted = (h : Offices) × Happens F w (delivery i me room) g h × SeenAll F (answered (withLink w i me l) me (onProposal w me (x .proposal) room)) h
+    Acted = (h : Offices) × Happens F w (delivery i me room) g h × SeenAll F (answered (withLink w i me l) me (proposalAnswer w me (x .proposal) room)) h
 
     sim-me : Sim own-state g me
     sim-me = seen .sim me q (below-sixteen F (q .0))
@@ -86,8 +88,8 @@ module _ (F : ℕ → Bool) where
     apart : i ≡ me → ⊥
     apart = among .2
 
-    of-link : (P : Item → Type 0) → All P (w .link i me) → P x × All P l
-    of-link P h = let k : All P (x ∷ l) = rw front at h in (all-head k, all-tail k)
+    of-link : (P : Item → Type 0) → Every P (w .link i me) → P x × Every P l
+    of-link P h = let k : Every P (x ∷ l) = rw front at h in (every-head k, every-tail k)
 
     from-i : p .sender ≡ i
     from-i = sender-stays (x .proposal) ∙ of-link (λ y. y .proposal .sender ≡ i) (seen .named i me i-below (q .0)) .0
@@ -110,7 +112,7 @@ module _ (F : ℕ → Bool) where
       facts =
           let v = valid in
           let r = rising-head (rw old-link at (core .rising i me from q apart)) in
-          let u = all-head (rw old-link at (core .told i me from q apart)) in
+          let u = every-head (rw old-link at (core .told i me from q apart)) in
           let n = sim-me .num in
           let a = sim-me .acc i i-below in
           record {
@@ -135,34 +137,34 @@ module _ (F : ℕ → Bool) where
     -- refused: the front of the link is lost
     module _ (r : Refused own-state (stepOf own-state bytes room)) where
       refused-seen : (h : Offices) → Seen F me (withLink w i me l) h → Sim own-state h me
-          → SeenAll F (answered (withLink w i me l) me (onProposal w me (x .proposal) room)) h
-      unfolding onProposal answered withLink
+          → SeenAll F (answered (withLink w i me l) me (proposalAnswer w me (x .proposal) room)) h
+      unfolding proposalAnswer answered withLink
       refused-seen h s m =
           subst (λ (z : Result). SeenAll F (answered (withLink w i me l) me z) h) (sym (r .is))
           (seen-moved F (withLink w i me l) h h me (nothingWritten own-state) s ans q (moved-none (w .clock) me h own-state m))
         where
-          ans : Answer F me (nothingWritten own-state)
-          ans = record { is-good = good-me; own = sim-me .own; sends = no-more; below = no-more; names = no-more }
+          ans : GoodAnswer F me (nothingWritten own-state)
+          ans = record { is-good = good-me; own = sim-me .own; sends = none; below = none; names = none }
 
       refused-outside : (InF F i → ⊥) → Acted
       refused-outside out =
           (g, idles {e = delivery i me room} (λ a b. absurd (out a)), refused-seen g (seen-linked F w g g me i me l seen (taken-outside w g i me x l seen front me out)) sim-me)
 
       refused-from : InF F i → Barred (stepOf own-state bytes room) → Acted
-      unfolding relink onProposal
+      unfolding relink proposalAnswer
       refused-from from b =
           let f : FromF F i me = (from, q .0, apart) in
           let h = relink g i me (without 0 (g .link i me)) in (
             h,
-            drops f (λ _. (onProposal w me (x .proposal) room, to-proposal i me room x l front, b)),
+            drops f (λ _. (proposalAnswer w me (x .proposal) room, to-proposal i me room x l front, b)),
             refused-seen h (seen-linked F w g h me i me l seen (taken-from w g i me x l seen front me f))
                 (record { own = sim-me .own; num = sim-me .num; mode = sim-me .mode; net = sim-me .net; stored = sim-me .stored; acc = sim-me .acc; used = sim-me .used }),
           )
 
     -- accepted
     module _ (acc : Accepts own-state bytes room) where
-      accepted-as : onProposal w me (x .proposal) room ≡ accepted (proposalRule own-state p)
-      unfolding onProposal
+      accepted-as : proposalAnswer w me (x .proposal) room ≡ accepted (proposalRule own-state p)
+      unfolding proposalAnswer
       accepted-as = step-accepts own-state bytes room acc
           ∙ ap (λ (e : Event). accepted (ruleOf own-state e)) (proposal-event (x .proposal))
 
@@ -238,14 +240,14 @@ module _ (F : ℕ → Bool) where
       -- the office's answer, where the arrays become k
       ends : (k : Offices) → Moved (w .clock) me arrived (proposalRule own-state p) k
           → EachProposal (λ p. (j : ℕ) → receives p j ≡ true → Valid me j p) (proposalRule own-state p .written)
-          → SeenAll F (answered (withLink w i me l) me (onProposal w me (x .proposal) room)) k
+          → SeenAll F (answered (withLink w i me l) me (proposalAnswer w me (x .proposal) room)) k
       unfolding withLink
       ends k moved valid = rw accepted-as (seen-moved F (withLink w i me l) arrived k me (proposalRule own-state p) seen-arrived ans q moved)
         where
           makes : Makes stored-at (proposalRule own-state p)
           makes = makes-proposal own-state p
 
-          ans : Answer F me (proposalRule own-state p)
+          ans : GoodAnswer F me (proposalRule own-state p)
           ans = record {
             is-good = record { passes = within-limit; net = rw (makes .net, net-is) (good-me .net); begun = makes .begun begun-is };
             own = makes .own ∙ own-is;
@@ -268,7 +270,7 @@ module _ (F : ℕ → Bool) where
           let e = other-members own-state p other in (
             arrived,
             stores p l arrives (λ k. other (k ∙ sym (sim-me .net))),
-            ends arrived (rw e (moved-none (w .clock) me arrived stored-at sim-arrived)) (rw e no-more),
+            ends arrived (rw e (moved-none (w .clock) me arrived stored-at sim-arrived)) (rw e none),
           )
 
       accepted-acts : Acted

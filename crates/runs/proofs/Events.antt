@@ -7,11 +7,11 @@ use Prim.Native.Nat.{ℕ, _<_}
 use Rattle.laws.proofs.Fin.{true-false}
 use Rattle.records.specs.Layout.{encodeReport, encodeProposal}
 use Rattle.records.specs.declared.Report.{Report}
-use Rattle.runs.specs.World.{Item, World, WorldEvent, report, delivery, loss, answered, withLink, idle, without, delivered, onReport, onProposal, next, Among}
+use Rattle.runs.specs.World.{Item, World, WorldEvent, report, delivery, loss, answered, withLink, idle, without, delivered, reportAnswer, proposalAnswer, next, Among}
 use Rattle.runs.specs.Begins.{InF}
 use Rattle.runs.proofs.Arrays.{Offices, relink, FromF, Numbers, Happens, idles, loses, drops}
-use Rattle.runs.proofs.Links.{all-without}
-use Rattle.runs.proofs.Grid.{upd2-agree}
+use Rattle.runs.proofs.Links.{every-without}
+use Rattle.laws.proofs.Grid.{upd2-agree}
 use Rattle.runs.proofs.Proposals.{each-map, step-names}
 use Rattle.runs.proofs.WorldArrays.{SeenAll, Linked, seen-linked, seen-idle, seen-outside, below-sixteen}
 use Rattle.runs.proofs.Reporting.{report-acts}
@@ -43,7 +43,7 @@ module _ (F : ℕ → Bool) where
         kept = λ a n. record { num = refl; mode = refl; net = refl; stored = refl; acc = refl; used = refl };
         same-shown = refl;
         links = λ c d p. upd2-agree (w .link) (g .link) i j rest (without place (g .link i j)) c d (ap (without place) (seen .links i j f)) (seen .links c d p);
-        part = λ P h. all-without place (w .link i j) h;
+        part = λ P h. every-without place (w .link i j) h;
       }
 
       outside : (InF F i → ⊥) → Linked F w g g 16 i j rest
@@ -51,7 +51,7 @@ module _ (F : ℕ → Bool) where
         kept = λ a n. record { num = refl; mode = refl; net = refl; stored = refl; acc = refl; used = refl };
         same-shown = refl;
         links = outside-link F w g i j rest seen out;
-        part = λ P h. all-without place (w .link i j) h;
+        part = λ P h. every-without place (w .link i j) h;
       }
 
       go : InF F i ⊎ (InF F i → ⊥) → Acted w g (loss i j place) (idle (withLink w i j rest))
@@ -63,8 +63,8 @@ module _ (F : ℕ → Bool) where
 
   -- a report to an office that is not of F
   report-outside : (w : World) (g : Offices) (o : ℕ) (rep : Report) (room : ℕ) → SeenAll F w g → (InF F o → ⊥) → o < 16
-      → SeenAll F (answered w o (onReport w o rep room)) g
-  unfolding onReport
+      → SeenAll F (answered w o (reportAnswer w o rep room)) g
+  unfolding reportAnswer
   report-outside w g o rep room seen out lt =
       let n = step-names (w .state o) (encodeReport rep) room in
       let own : w .state o .own ≡ o = seen .owns o lt (below-sixteen F lt) in
@@ -72,17 +72,17 @@ module _ (F : ℕ → Bool) where
 
   -- a delivery to an office that is not of F
   delivery-outside : (w : World) (g : Offices) (i j room : ℕ) (x : Item) (l : List Item) → SeenAll F w g → (InF F j → ⊥) → w .link i j ≡ x ∷ l
-      → Among (delivery i j room) → Acted w g (delivery i j room) (answered (withLink w i j l) j (onProposal w j (x .proposal) room))
-  unfolding onProposal withLink
+      → Among (delivery i j room) → Acted w g (delivery i j room) (answered (withLink w i j l) j (proposalAnswer w j (x .proposal) room))
+  unfolding proposalAnswer withLink
   delivery-outside w g i j room x l seen out front among = go (in-F? i (among .0))
     where
-      ends : (h : Offices) → Linked F w g h 16 i j l → SeenAll F (answered (withLink w i j l) j (onProposal w j (x .proposal) room)) h
+      ends : (h : Offices) → Linked F w g h 16 i j l → SeenAll F (answered (withLink w i j l) j (proposalAnswer w j (x .proposal) room)) h
       ends h k =
           let n = step-names (w .state j) (encodeProposal (x .proposal)) room in
           let own : w .state j .own ≡ j = seen .owns j (among .1) (below-sixteen F (among .1)) in
           seen-outside F (withLink w i j l) h j _ (seen-linked F w g h 16 i j l seen k) (among .1) out (n .0 ∙ own) (each-map (λ p e. e ∙ own) (n .1))
 
-      go : InF F i ⊎ (InF F i → ⊥) → Acted w g (delivery i j room) (answered (withLink w i j l) j (onProposal w j (x .proposal) room))
+      go : InF F i ⊎ (InF F i → ⊥) → Acted w g (delivery i j room) (answered (withLink w i j l) j (proposalAnswer w j (x .proposal) room))
       go (inl a) =
           let f : FromF F i j = (a, among .1, among .2) in
           let h = relink g i j (without 0 (g .link i j)) in
@@ -90,15 +90,15 @@ module _ (F : ℕ → Bool) where
       go (inr b) = (g, idles {e = delivery i j room} (λ a c. absurd (out c)), ends g (taken-outside F w g i j x l seen front 16 b))
 
   -- every event
-  pub acts : (w : World) (g : Offices) (e : WorldEvent) → SeenAll F w g → Numbers F g → Among e → Acted w g e (next w e)
+  pub world-acts : (w : World) (g : Offices) (e : WorldEvent) → SeenAll F w g → Numbers F g → Among e → Acted w g e (next w e)
   unfolding next
-  acts w g (report o rep room) s c m = go (in-F? o (m .0))
+  world-acts w g (report o rep room) s c m = go (in-F? o (m .0))
     where
-      go : InF F o ⊎ (InF F o → ⊥) → Acted w g (report o rep room) (answered w o (onReport w o rep room))
+      go : InF F o ⊎ (InF F o → ⊥) → Acted w g (report o rep room) (answered w o (reportAnswer w o rep room))
       go (inl q) = report-acts F w g o rep room s c q m
       go (inr n) = (g, idles {e = report o rep room} n, report-outside w g o rep room s n (m .0))
-  acts w g (loss i j place) s c m = loss-acts w g i j place s m
-  acts w g (delivery i j room) s c m = go (w .link i j) refl (in-F? j (m .1))
+  world-acts w g (loss i j place) s c m = loss-acts w g i j place s m
+  world-acts w g (delivery i j room) s c m = go (w .link i j) refl (in-F? j (m .1))
     where
       go : (l : List Item) → w .link i j ≡ l → InF F j ⊎ (InF F j → ⊥) → Acted w g (delivery i j room) (delivered w i j room l)
       go [] e b = (g, idles {e = delivery i j room} (λ a c. e), seen-idle F w g s)

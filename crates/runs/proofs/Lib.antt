@@ -3,7 +3,6 @@ pub mod OfficeNumbers
 pub mod OfficeViews
 pub mod OfficeFresh
 pub mod OfficeDays
-pub mod Grid
 pub mod Arrays
 pub mod Links
 pub mod Numbers

@@ -5,27 +5,15 @@ use mathlib.Core.Logic.{_⊎_, inl, inr}
 use Prim.Native.Nat.{ℕ, zero, suc, _≤_, _<_}
 use native.Mathlib.Omega.{arith}
 use lib.ListN.{length, getD}
-use Rattle.runs.specs.World.{Item, All, none, more, without}
+use Rattle.laws.specs.Lists.{Every, none, more}
+use Rattle.laws.proofs.Lists.{every-head, every-tail}
+use Rattle.runs.specs.World.{Item, without}
 use Rattle.runs.specs.Begins.{Rising, end, next}
 
-pub all-map : {P Q : Item → Type 0} {l : List Item} → ((x : Item) → P x → Q x) → All P l → All Q l
-all-map f none = none
-all-map f (more p h) = more (f _ p) (all-map f h)
-
-pub all-append : {P : Item → Type 0} {l k : List Item} → All P l → All P k → All P (l ++ k)
-all-append none g = g
-all-append (more p h) g = more p (all-append h g)
-
-pub all-head : {P : Item → Type 0} {x : Item} {l : List Item} → All P (x ∷ l) → P x
-all-head (more p h) = p
-
-pub all-tail : {P : Item → Type 0} {x : Item} {l : List Item} → All P (x ∷ l) → All P l
-all-tail (more p h) = h
-
-pub all-without : {P : Item → Type 0} (n : ℕ) (l : List Item) → All P l → All P (without n l)
-all-without n [] h = none
-all-without zero (x ∷ l) h = all-tail h
-all-without (suc n) (x ∷ l) h = more (all-head h) (all-without n l (all-tail h))
+pub every-without : {P : Item → Type 0} (n : ℕ) (l : List Item) → Every P l → Every P (without n l)
+every-without n [] h = none
+every-without zero (x ∷ l) h = every-tail h
+every-without (suc n) (x ∷ l) h = more (every-head h) (every-without n l (every-tail h))
 
 pub rising-le : {lo hi : ℕ} {l : List Item} → Rising lo hi l → lo ≤ hi
 rising-le (end h) = h

@@ -10,7 +10,9 @@ use lib.ListN.{length, take}
 use lib.Seq.{take-all}
 use lib.Dec.{eqb}
 use borrow.Author.Tests.{eq-eqb, ne-eqb, eqb-true}
+use Rattle.laws.specs.Lists.{runs}
 use Rattle.laws.specs.Upd.{ifb, upd}
+use Rattle.laws.proofs.Fin.{if-same}
 use Rattle.laws.proofs.Upd.{upd-same, upd-other, upd-cases}
 use Rattle.records.specs.Layout.{encodeReport, encodeProposal, decodeProposal}
 use Rattle.records.specs.Fits.{FitsReport}
@@ -22,7 +24,7 @@ use Rattle.rules.specs.Refusals.{eventOf, ruleOf, Result, stepOf}
 use Rattle.rules.proofs.Steps.{Refused, Accepts, step-accepts, step-cases}
 use Rattle.rules.proofs.Parts.{fresh-reads}
 use Rattle.rules.proofs.Encoded.{report-event, proposal-event}
-use Rattle.runs.specs.World.{Item, World, atFirst, WorldEvent, report, delivery, loss, answered, withLink, idle, delivered, onReport, onProposal, next, run, at, netOne, netBy, Among}
+use Rattle.runs.specs.World.{Item, World, atFirst, WorldEvent, report, delivery, loss, answered, withLink, idle, delivered, reportAnswer, proposalAnswer, next, run, at, netOne, netBy, Among}
 use Rattle.runs.specs.Begins.{AllAmong}
 use Rattle.runs.proofs.Proposals.{report-net, proposal-net}
 
@@ -39,10 +41,6 @@ step-report-net : (s : State) (r : Report) (room : ℕ) → FitsReport r
     → stepOf s (encodeReport r) room .state .net .bits ≡ ifb (eqb (stepOf s (encodeReport r) room .refusal) 0) (netAfter (s .net .bits) r) (s .net .bits)
 step-report-net s r room f = step-net s (encodeReport r) room _ (λ a. rw (report-event r f) (report-net s r))
 
-if-same : {A : Type 0} (t : Bool) (a : A) → ifb t a a ≡ a
-if-same true a = refl
-if-same false a = refl
-
 step-proposal-net : (s : State) (p : Proposal) (room : ℕ) → stepOf s (encodeProposal p) room .state .net .bits ≡ s .net .bits
 step-proposal-net s p room =
     step-net s (encodeProposal p) room (s .net .bits)
@@ -51,7 +49,7 @@ step-proposal-net s p room =
 
 -- an event gives office i the net view that the statement counts
 net-one : (w : World) (e : WorldEvent) (i : ℕ) → Among e → next w e .state i .net .bits ≡ netOne w e i (w .state i .net .bits)
-unfolding next answered onReport
+unfolding next answered reportAnswer
 net-one w (report o r room) i a = go (ℕ-discrete i o)
   where
     go : Dec (i ≡ o) → upd (w .state) o (stepOf (w .state o) (encodeReport r) room .state) i .net .bits
@@ -64,13 +62,13 @@ net-one w (delivery a b room) i m = go (w .link a b)
   where
     go : (l : List Item) → delivered w a b room l .state i .net .bits ≡ w .state i .net .bits
     go [] = unfold idle in refl
-    go (x ∷ l) = unfold onProposal withLink in upd-cases (λ (i : ℕ) (s : State). s .net .bits ≡ w .state i .net .bits) (w .state) b _ i
+    go (x ∷ l) = unfold proposalAnswer withLink in upd-cases (λ (i : ℕ) (s : State). s .net .bits ≡ w .state i .net .bits) (w .state) b _ i
         (step-proposal-net (w .state b) (x .proposal) room) (λ n. refl)
 net-one w (loss a b place) i m = unfold idle withLink in refl
 
 net-run : (w : World) (es : List WorldEvent) (i : ℕ) → AllAmong es
     → run w es .state i .net .bits ≡ netBy w es i (w .state i .net .bits)
-unfolding run netBy
+unfolding runs netBy
 net-run w [] i m = refl
 net-run w (e ∷ es) i m =
     net-run (next w e) es i (λ n f h. m (suc n) f (let a = h .0 in omega arith, h .1))

@@ -6,19 +6,21 @@ use Prim.Native.Nat.{ℕ, _≤_, _<_}
 use native.Mathlib.Omega.{arith}
 use native.Mathlib.Decide.{ℕ-discrete}
 use lib.Dec.{eqb}
-use Rattle.laws.specs.Upd.{ifb}
+use Rattle.laws.specs.Lists.{Every, none, more}
+use Rattle.laws.proofs.Lists.{every-append, every-head, every-map, every-tail}
+use Rattle.laws.specs.Upd.{ifb, upd2}
 use Rattle.laws.proofs.Upd.{upd-same, upd-other}
 use Rattle.laws.proofs.Fin.{if-cases, true-false}
 use Rattle.seats.specs.Seats.{serves}
 use Rattle.records.specs.declared.Proposal.{Proposal}
 use Rattle.rules.specs.State.{Mode, Fast, Slow, Slot, nothing, keeping, usedFor, numberIn}
-use Rattle.runs.specs.World.{Item, World, WorldEvent, All, none, more, without}
+use Rattle.runs.specs.World.{Item, World, WorldEvent, without}
 use Rattle.runs.specs.Begins.{InF, Rising}
-use Rattle.runs.proofs.Grid.{upd2, upd2-cases, upd2-same, upd2-other}
+use Rattle.laws.proofs.Grid.{upd2-cases, upd2-same, upd2-other}
 use Rattle.runs.proofs.Arrays.{Offices, mailTo, renet, propose, receive, conclude, relink, other, Proposes, Agreed, Arrives, FromF, Numbers}
 use Rattle.runs.proofs.Arrays.{SlowTest, not-called, called, not-agreed, agreed, Tests, both}
 use Rattle.runs.proofs.Arrays.{Happens, idles, refuses, loses, drops, leaves, reports, stores, answers}
-use Rattle.runs.proofs.Links.{all-map, all-append, all-head, all-tail, all-without, rising-le, rising-low, rising-high, rising-snoc, rising-tail, rising-head, rising-without}
+use Rattle.runs.proofs.Links.{every-without, rising-le, rising-low, rising-high, rising-snoc, rising-tail, rising-head, rising-without}
 
 -- what a proposal p puts on the link to office j: itself or nothing
 abbrev pub itemOf : ℕ → Proposal → Item
@@ -113,8 +115,8 @@ module _ (F : ℕ → Bool) where
             relink-cases g i j (without n (g .link i j)) (λ a b l. OfTwo a b (Rising (g .acc b a) (g .num a) l))
             (λ oi oj ne. rising-without n (g .link i j) (h .rising i j oi oj ne)) (h .rising);
         told =
-            relink-cases g i j (without n (g .link i j)) (λ a b l. OfTwo a b (All (λ x. usedFor (x .proposal) b ≤ g .num b) l))
-            (λ oi oj ne. all-without n (g .link i j) (h .told i j oi oj ne)) (h .told);
+            relink-cases g i j (without n (g .link i j)) (λ a b l. OfTwo a b (Every (λ x. usedFor (x .proposal) b ≤ g .num b) l))
+            (λ oi oj ne. every-without n (g .link i j) (h .told i j oi oj ne)) (h .told);
         kept = h .kept;
         kept-used = h .kept-used;
         used-acc = h .used-acc;
@@ -138,8 +140,8 @@ module _ (F : ℕ → Bool) where
               (λ oi om ne. let y = arrives .oldest oi in rw (y .2) at (rising-tail (rw (y .1) at (h .rising i me oi om ne))))
               (λ b a. h .rising a b) b a;
           told =
-              λ a b. receive-cases g me i p l (λ b a s n k. OfTwo a b (All (λ x. usedFor (x .proposal) b ≤ g .num b) k))
-              (λ oi om ne. all-tail (rw (arrives .oldest oi .1) at (h .told i me oi om ne)))
+              λ a b. receive-cases g me i p l (λ b a s n k. OfTwo a b (Every (λ x. usedFor (x .proposal) b ≤ g .num b) k))
+              (λ oi om ne. every-tail (rw (arrives .oldest oi .1) at (h .told i me oi om ne)))
               (λ b a. h .told a b) b a;
           kept =
               λ a b. receive-cases g me i p l
@@ -149,7 +151,7 @@ module _ (F : ℕ → Bool) where
           kept-used =
               λ a b. receive-cases g me i p l
               (λ b a s n k. OfTwo a b (s .present ≡ true → usedFor (s .proposal) b ≤ g .num b))
-              (λ oi om ne e. let y = arrives .oldest oi in rw (y .2) at (all-head (rw (y .1) at (h .told i me oi om ne))))
+              (λ oi om ne e. let y = arrives .oldest oi in rw (y .2) at (every-head (rw (y .1) at (h .told i me oi om ne))))
               (λ b a. h .kept-used a b) b a;
           used-acc =
               λ a b. receive-cases g me i p l (λ b a s n k. OfTwo a b (g .used b a ≤ n))
@@ -185,8 +187,8 @@ module _ (F : ℕ → Bool) where
         rw (makes .with-used b (ob .0))
         (if-cases (λ x. x ≤ said .num b) (serves (g .net me) b) (g .used me b) 0 (λ e. omega arith) (λ e. omega arith))
 
-    said-told : (a b : ℕ) → InF F a → InF F b → (a ≡ b → ⊥) → All (λ x. usedFor (x .proposal) b ≤ said .num b) (g .link a b)
-    said-told a b oa ob ne = let n = said-num g me m p t makes b in all-map (λ x u. omega arith) (h .told a b oa ob ne)
+    said-told : (a b : ℕ) → InF F a → InF F b → (a ≡ b → ⊥) → Every (λ x. usedFor (x .proposal) b ≤ said .num b) (g .link a b)
+    said-told a b oa ob ne = let n = said-num g me m p t makes b in every-map (λ x u. omega arith) (h .told a b oa ob ne)
 
     -- a row that rises goes on rising
     said-row : (lo b : ℕ) → Rising lo (g .num me) (g .link me b) → Rising lo (p .number) (g .link me b ++ mailTo t p b)
@@ -213,9 +215,9 @@ module _ (F : ℕ → Bool) where
               λ a b. propose-cases g me m p t (λ a n q r. OfTwo a b (Rising (g .acc b a) n (r b)))
               (λ om ob ne. said-row (g .acc b me) b (h .rising me b om ob ne)) (λ a n. h .rising a b) a;
           told =
-              λ a b. propose-cases g me m p t (λ a n q r. OfTwo a b (All (λ x. usedFor (x .proposal) b ≤ said .num b) (r b)))
-              (λ om ob ne. all-append (said-told me b om ob ne)
-              (mail-cases t p b (λ k. All (λ x. usedFor (x .proposal) b ≤ said .num b) k) (more (said-used b ob ne) none) none))
+              λ a b. propose-cases g me m p t (λ a n q r. OfTwo a b (Every (λ x. usedFor (x .proposal) b ≤ said .num b) (r b)))
+              (λ om ob ne. every-append (said-told me b om ob ne)
+              (mail-cases t p b (λ k. Every (λ x. usedFor (x .proposal) b ≤ said .num b) k) (more (said-used b ob ne) none) none))
               (λ a n. said-told a b) a;
           kept =
               λ a b oa ob ne. said-stored g me m p t (λ s. s .present ≡ true → s .proposal .number ≡ g .acc b a) b a (λ e. ne (sym e)) (h .kept a b oa ob ne);

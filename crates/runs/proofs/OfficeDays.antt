@@ -20,9 +20,9 @@ use Rattle.rules.specs.Rules.{joinedNumber, slowNumber, proposesSlow, slowTest,
 use Rattle.rules.specs.Rules.{agreementTest, tests, reportRule, proposalRule}
 use Rattle.rules.specs.Refusals.{slotWithin, wellFormed, unreadable, eventOf, wrongSender, wrongKind, wrongNumber, withoutSeat}
 use Rattle.rules.specs.Refusals.{strayUsed, notAbove, usedAhead, proposalChecks, accepting, actOf, stepOf}
-use Rattle.runs.specs.Office.{Handed, answerTo, LogEntry, stateAfter, logOf, Before, at-once, testedIn, CountedAt}
+use Rattle.runs.specs.Office.{Input, answerTo, LogEntry, stateAfter, logOf, Before, at-once, testedIn, CountedAt}
 
-abbrev joins : ℕ → Handed
+abbrev joins : ℕ → Input
 joins x = record { bytes = encodeReport (record { joining = record { bits = x }; leaving = record { bits = 0 } }); room = 182 }
 
 -- sixteen numbers, those of offices 0 and 1 first
@@ -34,10 +34,10 @@ made sender members start number used =
     record { sender = sender; kind = fast; members = record { bits = members }; start = start; number = number; used = used }
 
 -- what is handed in: the seats 0 and 4 join, and the proposal of office 1 arrives
-abbrev fromOffice1 : Handed
+abbrev fromOffice1 : Input
 fromOffice1 = record { bytes = encodeProposal (made 1 0b10001 1 1 zeros); room = 182 }
 
-abbrev threeDays : List Handed
+abbrev threeDays : List Input
 threeDays = joins 0b1 ∷ joins 0b10000 ∷ fromOffice1 ∷ []
 
 abbrev dayA : LogEntry

@@ -2,67 +2,45 @@
 use mathlib.Core.Path.{_≡_, refl, sym, ap, _∙_}
 use mathlib.Core.Bool.{Bool, true, false}
 use mathlib.Core.Logic.{_⊎_, inl, inr}
-use mathlib.Core.List.{List, [], _∷_, _++_, List·Memᴰ, List·Memᴰ·not-nil, List·Memᴰ·append-cases, List·Memᴰ·eq-of-singleton}
+use mathlib.Core.List.{List, [], _∷_, List·Memᴰ, List·Memᴰ·not-nil, List·Memᴰ·append-cases, List·Memᴰ·eq-of-singleton}
 use Prim.Native.Nat.{ℕ, _≤_, _<_}
 use native.Mathlib.Omega.{arith}
 use native.Mathlib.Nat.{le-trans}
 use lib.ListN.{getD}
+use Rattle.laws.specs.Lists.{Every, none, more}
+use Rattle.laws.proofs.Lists.{every-append, every-at}
 use Rattle.laws.proofs.Tab.{getD-tab}
 use Rattle.laws.proofs.Fin.{if-cases, true-false}
 use Rattle.seats.specs.Seats.{serves}
 use Rattle.records.specs.declared.Report.{Report}
-use Rattle.records.specs.declared.Notice.{Notice}
 use Rattle.records.specs.declared.Proposal.{Proposal}
 use Rattle.records.specs.declared.View.{View}
 use Rattle.rules.specs.State.{Mode, None, Fast, Slow, Slot, State, storedAt, usedAt}
-use Rattle.rules.specs.Rules.{Written, notice, proposal, view, Outcome, nothingWritten, andThen, fresh, netAfter, withNet, opened, opens, nextNumber, ownProposal, hasRecipient, proposesFast, received, inSlot}
+use Rattle.rules.specs.Rules.{notice, proposal, view, Outcome, nothingWritten, andThen, fresh, netAfter, withNet, opened, noticeOf, opens, nextNumber, proposesFast, received, inSlot}
 use Rattle.rules.specs.Rules.{slowCalled, beginsIn, slowNumber, proposesSlow, slowTest, agreed, startOf, viewOf, concluded, reportRule, proposalRule}
 use Rattle.rules.specs.Refusals.{Event, aReport, aProposal, eventOf, refusalOf, ruleOf, Result, stepOf}
 use Rattle.rules.proofs.Parts.{fresh-reads, concluded-reads}
 use Rattle.rules.proofs.Tests.{next-above, slow-above, agreed-out}
 use Rattle.rules.proofs.Steps.{check-facts, Refused, Accepts, step-cases, step-accepts}
+use Rattle.rules.proofs.Written.{NoView, fast-every}
 use Rattle.rules.proofs.Walk.{slowRound, concludes, Tested, staged-report, staged-proposal}
-use Rattle.runs.specs.Office.{Handed, answerTo, nextState, LogEntry, answerOf, logOf, Before, testedIn, testedAt, CountedAt}
+use Rattle.runs.specs.Office.{Input, answerTo, nextState, LogEntry, answerOf, logOf, Before, testedIn, testedAt, CountedAt}
 use Rattle.runs.proofs.OfficeRuns.{log-keeps, before-first, before-second}
 use Rattle.runs.proofs.OfficeNumbers.{lastOf, SlotAfter, same, empty, newer, Renews, renews-none, renews-then, renews-net, renews-opened, renews-proposed, renews-received, renews-concluded}
 
--- no view among these records
-abbrev Viewless : List Written → Type 0
-Viewless ws = (v : View) → List·Memᴰ (view v) ws → ⊥
-
-no-none : Viewless []
-no-none v m = List·Memᴰ·not-nil m
-
-no-notice : (n : Notice) → Viewless (notice n ∷ [])
-no-notice n v m = let e = List·Memᴰ·eq-of-singleton m in let z : _≡_ {A = ℕ} 0 1 = cc in omega arith
-
-no-proposal : (p : Proposal) → Viewless (proposal p ∷ [])
-no-proposal p v m = let e = List·Memᴰ·eq-of-singleton m in let z : _≡_ {A = ℕ} 0 1 = cc in omega arith
-
-no-append : (a b : List Written) → Viewless a → Viewless b → Viewless (a ++ b)
-no-append a b x y v m = go (List·Memᴰ·append-cases a m)
-  where
-    go : List·Memᴰ (view v) a ⊎ List·Memᴰ (view v) b → ⊥
-    go (inl k) = x v k
-    go (inr k) = y v k
-
 -- the parts of an event before the agreement test write no view
-fast-no-view : (s : State) → Viewless (proposesFast s .written)
-unfolding proposesFast
-fast-no-view s = if-cases Viewless (hasRecipient (ownProposal Fast (nextNumber s) s)) _ _ (λ e. no-proposal _) (λ e. no-none)
-
-opens-no-view : (s : State) → Viewless (opens s .written)
+opens-no-view : (s : State) → Every NoView (opens s .written)
 unfolding opens
-opens-no-view s = no-notice _
+opens-no-view s = more {a = notice (noticeOf (opened s))} tt none
 
-slow-no-view : (s : State) → Viewless (slowRound s .written)
+slow-no-view : (s : State) → Every NoView (slowRound s .written)
 unfolding andThen proposesSlow
-slow-no-view s = no-append (beginsIn (s .mode) s .written) _ (go (s .mode)) (no-proposal _)
+slow-no-view s = every-append (go (s .mode)) (more {a = proposal _} tt none)
   where
-    go : (m : Mode) → Viewless (beginsIn m s .written)
+    go : (m : Mode) → Every NoView (beginsIn m s .written)
     go None = opens-no-view s
-    go Fast = no-none
-    go Slow = no-none
+    go Fast = none
+    go Slow = none
 
 -- and renew the stored proposals
 fast-renews : (s : State) → Renews s (proposesFast s .state)
@@ -93,8 +71,8 @@ pub record EventDone (s x : State) (o : Outcome) : Type 0 where
   pub renews : Renews s (o .state)
   pub shows : (v : View) → List·Memᴰ (view v) (o .written) → ViewSent s x v (o .state)
 
-no-view-ends : (s x : State) (o : Outcome) → Renews s (o .state) → Viewless (o .written) → EventDone s x o
-no-view-ends s x o r n = record { renews = r; shows = λ v m. absurd (n v m) }
+no-view-ends : (s x : State) (o : Outcome) → Renews s (o .state) → Every NoView (o .written) → EventDone s x o
+no-view-ends s x o r n = record { renews = r; shows = λ v m. absurd (every-at (o .written) n m) }
 
 slow-called : (u : State) → slowCalled u ≡ true → slowTest u ≡ slowRound u
 unfolding slowTest
@@ -115,13 +93,13 @@ module _ (s u : State) (r : Renews s u) where
 
   record Has (y : State) (o : Outcome) : Type 0 where
     is : o .state ≡ y
-    no-view : Viewless (o .written)
+    no-view : Every NoView (o .written)
 
   called : (o : Outcome) → Has u o → slowCalled (o .state) ≡ true → Has x (andThen o slowRound)
   unfolding andThen
   called o h e = record {
     is = ap (λ (y : State). slowRound y .state) (h .is) ∙ sym (ap (λ (q : Outcome). q .state) (slow-called u (rw (h .is) at e)));
-    no-view = no-append (o .written) _ (h .no-view) (slow-no-view (o .state));
+    no-view = every-append (h .no-view) (slow-no-view (o .state));
   }
 
   concluding : (o : Outcome) → Has x o → agreed (o .state) ≡ true → EventDone s x (andThen o concludes)
@@ -132,7 +110,7 @@ module _ (s u : State) (r : Renews s u) where
   }
     where
       go : (v : View) → List·Memᴰ (view v) (o .written) ⊎ List·Memᴰ (view v) (view (viewOf (o .state)) ∷ []) → ViewSent s x v (concluded (o .state))
-      go v (inl m) = absurd (h .no-view v m)
+      go v (inl m) = absurd (every-at (o .written) (h .no-view) m)
       go v (inr m) =
           let q = List·Memᴰ·eq-of-singleton m in
           let i : v ≡ viewOf (o .state) = cc in
@@ -150,8 +128,8 @@ module _ (s u : State) (r : Renews s u) where
 report-ends : (s : State) (r : Report) → EventDone s (testedIn s (aReport r)) (reportRule s r)
 unfolding testedIn
 report-ends s r = staged-report (stages s u (renews-then net (renews-then (renews-opened t) (fast-renews (opened t))))) s r
-    (λ e. no-view-ends s _ (nothingWritten t) net no-none)
-    (λ e. unfold andThen opens in record { is = refl; no-view = no-append (opens t .written) _ (opens-no-view t) (fast-no-view (opened t)) })
+    (λ e. no-view-ends s _ (nothingWritten t) net none)
+    (λ e. unfold andThen opens in record { is = refl; no-view = every-append (opens-no-view t) (fast-every NoView (opened t) tt) })
   where
     t : State
     t = withNet s (netAfter (s .net .bits) r)
@@ -165,7 +143,7 @@ report-ends s r = staged-report (stages s u (renews-then net (renews-then (renew
 proposal-ends : (s : State) (p : Proposal) → refusalOf s (aProposal p) ≡ 0 → EventDone s (testedIn s (aProposal p)) (proposalRule s p)
 unfolding testedIn
 proposal-ends s p z = staged-proposal (stages s (received s p) arrives) s p
-    (λ e. no-view-ends s _ (nothingWritten (received s p)) arrives no-none) (λ e. record { is = refl; no-view = no-none })
+    (λ e. no-view-ends s _ (nothingWritten (received s p)) arrives none) (λ e. record { is = refl; no-view = none })
   where
     arrives : Renews s (received s p)
     arrives = let c = check-facts s p z in renews-received s p (c .other) (c .above)
@@ -175,7 +153,7 @@ event-ends s (aReport r) z = report-ends s r
 event-ends s (aProposal p) z = proposal-ends s p z
 
 -- the same of what is handed, accepted or not
-pub answer-ends : (s : State) (h : Handed) → Renews s (nextState s h)
+pub answer-ends : (s : State) (h : Input) → Renews s (nextState s h)
     × ((v : View) → List·Memᴰ (view v) (answerTo s h .written) → ViewSent s (testedIn s (eventOf (h .bytes))) v (nextState s h))
 unfolding answerTo
 answer-ends s h = go (step-cases s (h .bytes) (h .room))
@@ -184,7 +162,7 @@ answer-ends s h = go (step-cases s (h .bytes) (h .room))
     Ends r = Renews s (r .state) × ((v : View) → List·Memᴰ (view v) (r .written) → ViewSent s (testedIn s (eventOf (h .bytes))) v (r .state))
 
     go : Refused s (stepOf s (h .bytes) (h .room)) ⊎ Accepts s (h .bytes) (h .room) → Ends (stepOf s (h .bytes) (h .room))
-    go (inl r) = rw (r .is) (renews-none s, λ v m. absurd (no-none v m))
+    go (inl r) = rw (r .is) (renews-none s, λ v m. absurd (List·Memᴰ·not-nil m))
     go (inr a) = let x = event-ends s (eventOf (h .bytes)) (a .acts .passes) in rw (step-accepts s (h .bytes) (h .room) a) (x .renews, x .shows)
 
 -- no stored proposal has a number above the last one known of its office
@@ -267,7 +245,7 @@ view-counts e v m o l h =
 
 -- No proposal serves two views: of two views that an office sends in a run, the later one counts a proposal with a higher number for every
 -- office that is in both.
-pub counted-once : (s : State) → WithinLast s → (hs : List Handed) (e f : LogEntry) → Before e f (logOf s hs)
+pub counted-once : (s : State) → WithinLast s → (hs : List Input) (e f : LogEntry) → Before e f (logOf s hs)
     → (o : ℕ) (p q : Proposal) → CountedAt e o p → CountedAt f o q → p .number < q .number
 counted-once s k hs e f b o p q c d =
     let kept = log-keeps WithinLast (λ s h. kept-renews (answer-ends s h .0)) s k hs e (before-first e f b) in
@@ -281,7 +259,7 @@ counted-once s k hs e f b o p q c d =
 fresh-kept : (own : ℕ) → WithinLast (fresh own)
 fresh-kept own o l p = absurd (true-false _ p (ap (λ (v : Slot). v .present) (fresh-reads own .stored-is o l)))
 
-pub no-proposal-twice : (own : ℕ) (hs : List Handed) (e f : LogEntry) → Before e f (logOf (fresh own) hs)
+pub no-proposal-twice : (own : ℕ) (hs : List Input) (e f : LogEntry) → Before e f (logOf (fresh own) hs)
     → (o : ℕ) (p q : Proposal) → CountedAt e o p → CountedAt f o q → p .number < q .number
 no-proposal-twice own hs e f b o p q c d = counted-once (fresh own) (fresh-kept own) hs e f b o p q c d
 

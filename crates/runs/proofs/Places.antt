@@ -6,32 +6,24 @@ use native.Mathlib.Omega.{arith}
 use native.Mathlib.Numerals.{add-one}
 use lib.ListN.{length, take, drop, getD}
 use lib.Seq.{take-suc, drop-cons, length-take-le}
+use Rattle.laws.specs.Lists.{runs}
+use Rattle.laws.proofs.Lists.{runs-append}
+use Rattle.laws.proofs.Loops.{same-entry}
 use Rattle.rules.specs.State.{State}
 use Rattle.runs.specs.World.{Item, World, atFirst, WorldEvent, report, delivery, loss, answered, withLink, idle, delivered, next, run, at, Nth}
 
--- what stands at a place does not depend on what would stand past the end
-getD-any : (es : List WorldEvent) (n : ℕ) (a b : WorldEvent) → n < length es → getD es n a ≡ getD es n b
-getD-any [] n a b lt = absurd (omega arith)
-getD-any (e ∷ es) zero a b lt = refl
-getD-any (e ∷ es) (suc n) a b lt = getD-any es n a b (omega arith)
-
 -- the event at a place
 pub nth : (es : List WorldEvent) (n : ℕ) → n < length es → (e : WorldEvent) × Nth es n e
-nth es n lt = let e = getD es n (loss 0 0 0) in (e, (lt, getD-any es n e (loss 0 0 0) lt))
+nth es n lt = let e = getD es n (loss 0 0 0) in (e, (lt, same-entry es n e (loss 0 0 0) lt))
 
 pub nth-same : (es : List WorldEvent) (n : ℕ) (a b : WorldEvent) → Nth es n a → Nth es n b → a ≡ b
-nth-same es n a b p q = sym (p .1) ∙ getD-any es n a b (p .0) ∙ q .1
-
-run-append : (w : World) (a b : List WorldEvent) → run w (a ++ b) ≡ run (run w a) b
-unfolding run
-run-append w [] b = refl
-run-append w (e ∷ a) b = run-append (next w e) a b
+nth-same es n a b p q = sym (p .1) ∙ same-entry es n a b (p .0) ∙ q .1
 
 pub at-next : (w : World) (es : List WorldEvent) (n : ℕ) (e : WorldEvent) → Nth es n e → at w es (n + 1) ≡ next (at w es n) e
-unfolding run
+unfolding runs
 at-next w es n e h =
     let a : take (n + 1) es ≡ take n es ++ (e ∷ []) = rw (add-one, take-suc es n e (h .0), h .1) in
-    ap (run w) a ∙ run-append w (take n es) (e ∷ [])
+    ap (run w) a ∙ runs-append next w (take n es) (e ∷ [])
 
 pub drop-next : (es : List WorldEvent) (n : ℕ) (e : WorldEvent) → Nth es n e → drop n es ≡ e ∷ drop (n + 1) es
 drop-next es n e h = rw (add-one, drop-cons es n e (h .0), h .1)
@@ -47,7 +39,7 @@ clock-next w (delivery i j room) = go (w .link i j)
 clock-next w (loss i j place) = refl
 
 clock-run : (w : World) (es : List WorldEvent) → run w es .clock ≡ w .clock + length es
-unfolding run
+unfolding runs
 clock-run w [] = omega arith
 clock-run w (e ∷ es) = let a = clock-run (next w e) es in let b = clock-next w e in omega arith
 

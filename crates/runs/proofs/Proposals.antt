@@ -2,10 +2,12 @@
 use mathlib.Core.Path.{_≡_, refl, _∙_}
 use mathlib.Core.Bool.{false}
 use mathlib.Core.Logic.{_⊎_, inl, inr}
-use mathlib.Core.List.{List, [], _∷_, _++_}
+use mathlib.Core.List.{List}
 use Prim.Native.Nat.{ℕ, _≤_, _<_}
 use native.Mathlib.Omega.{arith}
 use lib.ListN.{length}
+use Rattle.laws.specs.Lists.{Every, none, more}
+use Rattle.laws.proofs.Lists.{every-append, every-map}
 use Rattle.laws.proofs.Fin.{if-cases, true-false}
 use Rattle.laws.proofs.Tab.{length-tab}
 use Rattle.laws.specs.Upd.{ifb}
@@ -22,24 +24,22 @@ use Rattle.rules.proofs.Parts.{withNet-reads, opened-reads, proposed-reads, rec
 use Rattle.rules.proofs.Tests.{slow-above, next-above}
 use Rattle.rules.proofs.Walk.{arrived, concludes, ProposesFast, ProposesSlow, after-opening, in-round, Walk, Tested, staged-report, staged-proposal, walk-report, walk-proposal, walk-event}
 
--- P holds of each proposal written
-pub data EachProposal (P : Proposal → Type 0) : List Written → Type 0 where
-  no-more : EachProposal P []
-  a-notice : {n : Notice} {ws : List Written} → EachProposal P ws → EachProposal P (notice n ∷ ws)
-  a-proposal : {p : Proposal} {ws : List Written} → P p → EachProposal P ws → EachProposal P (proposal p ∷ ws)
-  a-view : {v : View} {ws : List Written} → EachProposal P ws → EachProposal P (view v ∷ ws)
+-- P holds of a record if it is a proposal, and of each proposal written
+pub data IfProposal (P : Proposal → Type 0) : Written → Type 0 where
+  a-notice : {n : Notice} → IfProposal P (notice n)
+  a-proposal : {p : Proposal} → P p → IfProposal P (proposal p)
+  a-view : {v : View} → IfProposal P (view v)
+
+abbrev pub EachProposal : (Proposal → Type 0) → List Written → Type 0
+EachProposal P = Every (IfProposal P)
 
 pub each-map : {P Q : Proposal → Type 0} {ws : List Written} → ((p : Proposal) → P p → Q p) → EachProposal P ws → EachProposal Q ws
-each-map f no-more = no-more
-each-map f (a-notice e) = a-notice (each-map f e)
-each-map f (a-proposal p e) = a-proposal (f _ p) (each-map f e)
-each-map f (a-view e) = a-view (each-map f e)
-
-pub each-append : {P : Proposal → Type 0} {a b : List Written} → EachProposal P a → EachProposal P b → EachProposal P (a ++ b)
-each-append no-more f = f
-each-append (a-notice e) f = a-notice (each-append e f)
-each-append (a-proposal p e) f = a-proposal p (each-append e f)
-each-append (a-view e) f = a-view (each-append e f)
+each-map {P} {Q} f = every-map one
+  where
+    one : (w : Written) → IfProposal P w → IfProposal Q w
+    one (notice n) a-notice = a-notice
+    one (proposal p) (a-proposal h) = a-proposal (f p h)
+    one (view v) a-view = a-view
 
 -- a round is open only after a start number was given out
 abbrev pub Begun : State → Type 0
@@ -89,7 +89,7 @@ makes-then s o f q b =
       number = omega arith;
       start = omega arith;
       begun = λ h. b .begun (a .begun h);
-      sends = each-append (each-map earlier (a .sends)) (each-map later (b .sends));
+      sends = every-append (each-map earlier (a .sends)) (each-map later (b .sends));
     }
   where
     earlier : (p : Proposal) → MadeBetween s (o .state) p → MadeBetween s (f (o .state) .state) p
@@ -130,7 +130,7 @@ first-then s o f a b = record { makes = makes-then s o f a (b .makes); same-used
 module _ (s : State) where
   makes-none : MakesFirst s (nothingWritten s)
   makes-none = record {
-    makes = record { own = refl; net = refl; number = omega arith; start = omega arith; begun = λ b. b; sends = no-more };
+    makes = record { own = refl; net = refl; number = omega arith; start = omega arith; begun = λ b. b; sends = none };
     same-used = λ o lt. refl;
   }
 
@@ -175,7 +175,7 @@ module _ (s : State) where
       let a = r .start-is in
       let b = r .number-is in
       record {
-        makes = record { own = r .own-is; net = r .net-is; number = omega arith; start = omega arith; begun = λ h q. omega arith; sends = a-notice no-more };
+        makes = record { own = r .own-is; net = r .net-is; number = omega arith; start = omega arith; begun = λ h q. omega arith; sends = more a-notice none };
         same-used = r .used-is;
       }
 
@@ -186,15 +186,15 @@ module _ (s : State) where
       let busy : Fast ≡ None → ⊥ = λ e. let z : _≡_ {A = ℕ} 0 1 = cc in omega arith in
       makes-propose Fast (nextNumber s) busy (next-above s) given _
       (if-cases (EachProposal (MadeBetween s (proposed Fast (nextNumber s) s))) (hasRecipient (ownProposal Fast (nextNumber s) s)) _ _
-      (λ e. a-proposal (made-between Fast (nextNumber s) busy (next-above s) given) no-more)
-      (λ e. no-more))
+      (λ e. more (a-proposal (made-between Fast (nextNumber s) busy (next-above s) given)) none)
+      (λ e. none))
 
   makes-slow : ProposesSlow s → MakesFirst s (proposesSlow s)
   unfolding proposesSlow
   makes-slow q =
       let busy : Slow ≡ None → ⊥ = λ e. let z : _≡_ {A = ℕ} 0 1 = cc in omega arith in
       makes-propose Slow (slowNumber s) busy (slow-above s) (given q) _
-      (a-proposal (made-between Slow (slowNumber s) busy (slow-above s) (given q)) no-more)
+      (more (a-proposal (made-between Slow (slowNumber s) busy (slow-above s) (given q))) none)
     where
       given : ProposesSlow s → Begun s → 1 ≤ s .start
       given (after-opening u n c e) h = rw e (let a = opened-reads u .start-is in omega arith)
@@ -211,7 +211,7 @@ module _ (s : State) where
         number = omega arith;
         start = omega arith;
         begun = λ h q. absurd (q (r .mode-is));
-        sends = a-view no-more;
+        sends = more a-view none;
       }
 
 making : Walk MakesFirst Makes
@@ -261,7 +261,7 @@ step-names s b room = go (step-cases s b room)
 
     go : Refused s (stepOf s b room) ⊎ Accepts s b room
         → (stepOf s b room .state .own ≡ s .own) × EachProposal (λ p. p .sender ≡ s .own) (stepOf s b room .written)
-    go (inl r) = rw (r .is) (refl, no-more)
+    go (inl r) = rw (r .is) (refl, none)
     go (inr a) =
         let e = eventOf b in
         let m = walk-event making s e in

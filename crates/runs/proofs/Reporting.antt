@@ -5,6 +5,7 @@ use mathlib.Core.Logic.{_⊎_, inl, inr}
 use mathlib.Core.List.{List}
 use Prim.Native.Nat.{ℕ, _^_, _≤_, _<_}
 use native.Mathlib.Omega.{arith}
+use Rattle.laws.specs.Lists.{none}
 use Rattle.laws.proofs.Fin.{true-false}
 use Rattle.laws.proofs.Upd.{upd-other}
 use Rattle.seats.specs.Seats.{serves}
@@ -20,15 +21,15 @@ use Rattle.rules.proofs.Steps.{accepted, Refused, Accepts, well-facts, step-acc
 use Rattle.rules.proofs.Parts.{withNet-reads}
 use Rattle.rules.proofs.Encoded.{report-event}
 use Rattle.rules.proofs.Walk.{staged-report}
-use Rattle.runs.specs.World.{World, report, answered, onReport, Among}
+use Rattle.runs.specs.World.{World, report, answered, reportAnswer, Among}
 use Rattle.runs.specs.Begins.{InF}
 use Rattle.runs.proofs.Arrays.{Offices, Barred, renet, Numbers, Happens, refuses, leaves, reports}
 use Rattle.runs.proofs.StateArrays.{Sim, sim-renet}
 use Rattle.runs.proofs.RulesArrays.{Moved, moved-none, moving, fast-moves}
-use Rattle.runs.proofs.Proposals.{EachProposal, each-map, no-more, Begun, Makes, makes-report, unseated-report}
+use Rattle.runs.proofs.Proposals.{EachProposal, each-map, Begun, Makes, makes-report, unseated-report}
 use Rattle.runs.proofs.Accepting.{accepted-or-barred}
 use Rattle.runs.proofs.Valid.{Valid, made-below, made-valid}
-use Rattle.runs.proofs.WorldArrays.{Good, Seen, SeenAll, Answer, Kept, seen-but, seen-moved, seen-turned, below-sixteen}
+use Rattle.runs.proofs.WorldArrays.{Good, Seen, SeenAll, GoodAnswer, SameOwn, seen-but, seen-moved, seen-turned, below-sixteen}
 
 module _ (F : ℕ → Bool) where
   -- a report at an office of F
@@ -53,8 +54,8 @@ module _ (F : ℕ → Bool) where
     Acted r = (h : Offices) × Happens F w (report me rep room) g h × SeenAll F (answered w me r) h
 
     -- refused: nothing happens
-    refused-acts : Refused mine (stepOf mine bytes room) → Barred (stepOf mine bytes room) → Acted (onReport w me rep room)
-    unfolding onReport answered
+    refused-acts : Refused mine (stepOf mine bytes room) → Barred (stepOf mine bytes room) → Acted (reportAnswer w me rep room)
+    unfolding reportAnswer answered
     refused-acts r b = (
       g,
       refuses q b,
@@ -62,8 +63,8 @@ module _ (F : ℕ → Bool) where
           (seen-moved F w g g me (nothingWritten mine) (seen-but F w g me seen) ans q (moved-none (w .clock) me g mine sim)),
     )
       where
-        ans : Answer F me (nothingWritten mine)
-        ans = record { is-good = good; own = sim .own; sends = no-more; below = no-more; names = no-more }
+        ans : GoodAnswer F me (nothingWritten mine)
+        ans = record { is-good = good; own = sim .own; sends = none; below = none; names = none }
 
     abbrev made-net : ℕ
     made-net = netAfter (mine .net .bits) rep
@@ -72,7 +73,7 @@ module _ (F : ℕ → Bool) where
     unfolding netAfter
     net-below = without-lt _ _ (union-lt _ _ (good .net) (fits .joining))
 
-    renetted-kept : (a : ℕ) → (a ≡ me → ⊥) → Kept F g (renet g me made-net) a
+    renetted-kept : (a : ℕ) → (a ≡ me → ⊥) → SameOwn F g (renet g me made-net) a
     unfolding renet
     renetted-kept a n = record {
       num = refl;
@@ -115,8 +116,8 @@ module _ (F : ℕ → Bool) where
         omega arith
 
     module _ (accepts : Accepts mine bytes room) where
-      answer : onReport w me rep room ≡ accepted (reportRule mine rep)
-      unfolding onReport
+      answer : reportAnswer w me rep room ≡ accepted (reportRule mine rep)
+      unfolding reportAnswer
       answer = step-accepts mine bytes room accepts ∙ ap (λ (e : Event). accepted (ruleOf mine e)) (report-event rep fits)
 
       passes : wellFormed (reportRule mine rep .state) ≡ true
@@ -131,7 +132,7 @@ module _ (F : ℕ → Bool) where
           makes : Makes turned (reportRule mine rep)
           makes = makes-report mine rep
 
-          ans : Answer F me (reportRule mine rep)
+          ans : GoodAnswer F me (reportRule mine rep)
           ans = record {
             is-good = record { passes = passes; net = rw (makes .net, turned-net) net-below; begun = makes .begun turned-begun };
             own = makes .own ∙ turned-own;
@@ -147,7 +148,7 @@ module _ (F : ℕ → Bool) where
           let r = unseated-report mine rep e in (
             renet g me made-net,
             leaves made-net q (ap (λ (x : ℕ). serves x me) (sym turned-net) ∙ ap (serves (turned .net .bits)) (sym turned-own) ∙ e),
-            ends (renet g me made-net) (rw r (moved-none (w .clock) me (renet g me made-net) turned sim-turned)) (rw r no-more),
+            ends (renet g me made-net) (rw r (moved-none (w .clock) me (renet g me made-net) turned sim-turned)) (rw r none),
           )
 
       -- a fast proposal and the tests
@@ -160,16 +161,16 @@ module _ (F : ℕ → Bool) where
           let valid = made-valid turned (reportRule mine rep .state) me turned-own (q .0) (rw turned-net net-below) seat within (well-facts _ passes) turned-begun in
           (t .0, reports made-net _ q (f .0) (t .1), ends (t .0) (t .2) (each-map valid (makes-report mine rep .sends)))
 
-      accepted-acts : Acted (onReport w me rep room)
+      accepted-acts : Acted (reportAnswer w me rep room)
       accepted-acts = rw answer (go (seated turned) refl)
         where
           go : (t : Bool) → seated turned ≡ t → Acted (accepted (reportRule mine rep))
           go true e = opened-up e
           go false e = unseated e
 
-    pub report-acts : Acted (onReport w me rep room)
+    pub report-acts : Acted (reportAnswer w me rep room)
     report-acts = go (accepted-or-barred mine bytes room (aReport rep) (good .passes) (report-checked rep) (report-event rep fits) refl)
       where
-        go : Accepts mine bytes room ⊎ (Refused mine (stepOf mine bytes room) × Barred (stepOf mine bytes room)) → Acted (onReport w me rep room)
+        go : Accepts mine bytes room ⊎ (Refused mine (stepOf mine bytes room) × Barred (stepOf mine bytes room)) → Acted (reportAnswer w me rep room)
         go (inl a) = accepted-acts a
         go (inr r) = refused-acts (r .0) (r .1)

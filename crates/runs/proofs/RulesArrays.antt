@@ -16,7 +16,7 @@ use Rattle.rules.specs.Rules.{Written, notice, proposal, view, Outcome, nothing
 use Rattle.rules.proofs.Parts.{made-is, made-used}
 use Rattle.rules.proofs.Tests.{Matching, Above, Cause, in-none, heard-slow, is-used, above-own, NotCalled, NumberFrom, joins, starts, Agreeing, AllAgree, called-out, not-called, slow-number, slow-above, next-above, agreed-out, agreed-in}
 use Rattle.rules.proofs.Walk.{slowRound, concludes, Tested}
-use Rattle.runs.specs.World.{Item, Sent, SentView, mail, logged, viewsIn}
+use Rattle.runs.specs.World.{Item, SentRecord, SentView, mail, logged, viewsIn}
 use Rattle.runs.proofs.Arrays as off
 use Rattle.runs.proofs.Arrays.{Offices, mailTo, propose, conclude, viewWith, Match, other, Proposes, Calls, Silent, Joinable, Chosen, Agrees, Agreed, SlowTest, AgreementTest, Tests}
 use Rattle.runs.proofs.StateArrays.{Sim, sim-open, sim-propose, sim-conclude}
@@ -53,7 +53,7 @@ shows t (notice n ∷ ws) vs = shows t ws vs
 shows t (proposal p ∷ ws) vs = shows t ws vs
 shows t (view v ∷ ws) vs = shows t ws (record { view = v; sent = t } ∷ vs)
 
-pub views-logged : (t : ℕ) (ws : List Written) (l : List Sent) → viewsIn (logged t ws l) ≡ shows t ws (viewsIn l)
+pub views-logged : (t : ℕ) (ws : List Written) (l : List SentRecord) → viewsIn (logged t ws l) ≡ shows t ws (viewsIn l)
 views-logged t [] l = refl
 views-logged t (notice n ∷ ws) l = views-logged t ws (record { what = notice n; clock = t } ∷ l)
 views-logged t (proposal p ∷ ws) l = views-logged t ws (record { what = proposal p; clock = t } ∷ l)

@@ -6,6 +6,7 @@ use mathlib.Core.List.{List}
 use Prim.Native.Nat.{ℕ, _+_, _≤_, _<_}
 use native.Mathlib.Omega.{arith}
 use lib.ListN.{length}
+use Rattle.laws.specs.Lists.{runs}
 use Rattle.records.specs.declared.Proposal.{Proposal}
 use Rattle.rules.specs.State.{State, usedFor}
 use Rattle.runs.specs.World.{Item, World, WorldEvent, atFirst, at, Nth}
@@ -13,7 +14,7 @@ use Rattle.runs.specs.Begins.{InF, Begins, AllAmong, HasSent, Rising}
 use Rattle.runs.proofs.Arrays.{Offices, FromF, Numbers, Happens}
 use Rattle.runs.proofs.Numbers.{numbers-acts}
 use Rattle.runs.proofs.WorldArrays.{SeenAll, below-sixteen}
-use Rattle.runs.proofs.Events.{acts}
+use Rattle.runs.proofs.Events.{world-acts}
 use Rattle.runs.proofs.Places.{at-next, along}
 use Rattle.runs.proofs.Start.{atStart, start-numbers, start-seen}
 
@@ -31,7 +32,7 @@ module _ (F : ℕ → Bool) (states : ℕ → State) (links : ℕ → ℕ → Li
   pub event-acts : (n : ℕ) (e : WorldEvent) → Nth es n e → (g : Offices) → SeenAll F (world n) g → Numbers F g
       → (h : Offices) × Happens F (world n) e g h × SeenAll F (world (n + 1)) h × Numbers F h
   event-acts n e k g s c =
-      let a = acts F (world n) g e s c (among n e k) in
+      let a = world-acts F (world n) g e s c (among n e k) in
       (a .0, a .1, subst (λ (w : World). SeenAll F w (a .0)) (sym (at-next (atFirst states links) es n e k)) (a .2), numbers-acts F c (a .1))
 
   -- what the events keep of the arrays, from one place to a later one
@@ -48,7 +49,7 @@ module _ (F : ℕ → Bool) (states : ℕ → State) (links : ℕ → ℕ → Li
 
     -- and from the start
     pub shown-at : I 0 atStart → (n : ℕ) → n ≤ length es → Shown I n
-    unfolding Rattle.runs.specs.World.run
+    unfolding runs
     shown-at i n l = shown-along 0 n (omega arith) l (atStart, start-seen F states links begins, start-numbers F, i)
 
   abbrev Whatever : ℕ → Offices → Type 0

@@ -1,17 +1,16 @@
 -- The arrays before the first event.
-use mathlib.Core.Path.{_≡_, refl, sym, ap, _∙_}
+use mathlib.Core.Path.{_≡_, refl, ap, _∙_}
 use mathlib.Core.Bool.{Bool, true, false}
 use mathlib.Core.List.{List, [], List·Memᴰ·not-nil}
 use Prim.Native.Nat.{ℕ, _<_}
 use native.Mathlib.Omega.{arith}
-use lib.ListN.{getD}
+use Rattle.laws.specs.Lists.{Every, none}
 use Rattle.laws.proofs.Fin.{true-false}
-use Rattle.laws.proofs.Tab.{getD-tab}
-use Rattle.rules.specs.State.{None, Slot, State, noProposal, nothing}
+use Rattle.rules.specs.State.{None, State, noProposal, nothing}
 use Rattle.rules.specs.Rules.{fresh}
-use Rattle.rules.proofs.Steps.{WellFormed, facts-well}
+use Rattle.rules.proofs.Steps.{fresh-well}
 use Rattle.rules.proofs.Parts.{fresh-reads}
-use Rattle.runs.specs.World.{Item, atFirst, All, none}
+use Rattle.runs.specs.World.{Item, atFirst}
 use Rattle.runs.specs.Begins.{Begins, end}
 use Rattle.runs.proofs.Arrays.{Offices, Numbers}
 use Rattle.runs.proofs.StateArrays.{Sim}
@@ -50,39 +49,14 @@ start-numbers F = record {
   own-used = λ i a. omega arith;
 }
 
-fresh-starts : (i o : ℕ) → o < 16 → getD (fresh i .view .starts) o 0 ≡ 0
-unfolding fresh
-fresh-starts i o lt = getD-tab 16 (λ k. 0) o 0 lt
-
-fresh-view : (i : ℕ) → fresh i .view .number ≡ 0
-unfolding fresh
-fresh-view i = refl
-
 fresh-good : (i : ℕ) → i < 16 → Good (fresh i)
 fresh-good i lt =
     let r = fresh-reads i in
     record {
-      passes = facts-well (fresh i) within;
+      passes = fresh-well i lt;
       net = rw (r .net-is) (omega arith);
       begun = λ n. absurd (n (r .mode-is));
     }
-  where
-    within : WellFormed (fresh i)
-    within =
-        let r = fresh-reads i in
-        let a = r .own-is in
-        let b = r .start-is in
-        let c = r .number-is in
-        record {
-          own = omega arith;
-          view = let d = fresh-view i in omega arith;
-          start = omega arith;
-          number = omega arith;
-          starts = λ o l. let d = fresh-starts i o l in omega arith;
-          accepted = λ o l. let d = r .accepted-is o l in omega arith;
-          used = λ o l. let d = r .used-is o l in omega arith;
-          stored = λ o l p. never (sym (ap (λ (v : Slot). v .present) (r .stored-is o l)) ∙ p);
-        }
 
 module _ (F : ℕ → Bool) (states : ℕ → State) (links : ℕ → ℕ → List Item) (begins : Begins F states links) where
   pub start-seen : SeenAll F (atFirst states links) atStart
@@ -116,6 +90,6 @@ module _ (F : ℕ → Bool) (states : ℕ → State) (links : ℕ → ℕ → Li
       owns o lt true e = ap (λ (s : State). s .own) (begins .starts-fresh o (lt, e)) ∙ fresh-reads o .own-is
       owns o lt false e = begins .others-own o lt (λ q. true-false _ (q .1) e)
 
-      named : (o j : ℕ) → o < 16 → (t : Bool) → F o ≡ t → All (λ x. x .proposal .sender ≡ o) (links o j)
+      named : (o j : ℕ) → o < 16 → (t : Bool) → F o ≡ t → Every (λ x. x .proposal .sender ≡ o) (links o j)
       named o j lt true e = rw (begins .no-mail o j (lt, e)) none
       named o j lt false e = begins .others-mail o j lt (λ q. true-false _ (q .1) e)

@@ -2,7 +2,7 @@
 use mathlib.Core.Path.{_≡_, sym, ap, _∙_}
 use mathlib.Core.List.{List}
 use Prim.Native.Nat.{ℕ, _<_}
-use Rattle.laws.specs.Upd.{ifb, upd}
+use Rattle.laws.specs.Upd.{ifb, upd, upd2}
 use Rattle.laws.proofs.Upd.{upd-same, upd-agree}
 use Rattle.seats.specs.Seats.{serves}
 use Rattle.records.specs.declared.Proposal.{Proposal}
@@ -10,7 +10,7 @@ use Rattle.rules.specs.State.{Mode, None, State, nothing, keeping, storedAt, ac
 use Rattle.rules.specs.Rules.{withNet, opened, ownProposal, proposed, received, concluded}
 use Rattle.rules.proofs.Parts.{withNet-reads, opened-reads, proposed-reads, received-reads, concluded-reads, made-is}
 use Rattle.runs.specs.World.{Item}
-use Rattle.runs.proofs.Grid.{upd2, row-same}
+use Rattle.laws.proofs.Grid.{row-same}
 use Rattle.runs.proofs.Arrays.{Offices, renet, propose, receive, conclude}
 
 -- the state s is what the arrays say of office me

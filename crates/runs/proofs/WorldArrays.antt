@@ -5,6 +5,8 @@ use mathlib.Core.Logic.{_⊎_, inl, inr, ⊎-elim}
 use mathlib.Core.List.{List, [], _∷_, _++_, List·Memᴰ, List·Memᴰ·cases-cons}
 use Prim.Native.Nat.{ℕ, _+_, _^_, _<_}
 use native.Mathlib.Omega.{arith}
+use Rattle.laws.specs.Lists.{Every, none, more}
+use Rattle.laws.proofs.Lists.{every-append, every-map}
 use Rattle.laws.proofs.Fin.{if-cases}
 use Rattle.laws.specs.Upd.{upd}
 use Rattle.laws.proofs.Upd.{upd-cases}
@@ -13,15 +15,14 @@ use Rattle.rules.specs.State.{State, usedFor}
 use Rattle.rules.specs.Rules.{Written, notice, proposal, view, Outcome, receives}
 use Rattle.rules.specs.Refusals.{wellFormed, Result}
 use Rattle.rules.proofs.Steps.{accepted}
-use Rattle.runs.specs.World.{Item, World, Sent, viewsIn, All, none, more, mail, logged, answered, withLink, idle}
+use Rattle.runs.specs.World.{Item, World, SentRecord, viewsIn, mail, logged, answered, withLink, idle}
 use Rattle.runs.proofs.Arrays.{Offices, FromF}
 use Rattle.runs.specs.Begins.{InF, HasSent}
-use Rattle.runs.proofs.Links.{all-map, all-append}
-use Rattle.runs.proofs.Grid.{upd2-cases}
+use Rattle.laws.proofs.Grid.{upd2-cases}
 use Rattle.runs.proofs.StateArrays.{Sim}
 use Rattle.runs.proofs.RulesArrays.{Same, Moved, shows, views-logged}
 use Rattle.runs.proofs.Valid.{Valid}
-use Rattle.runs.proofs.Proposals.{EachProposal, each-map, no-more, a-notice, a-proposal, a-view, Begun}
+use Rattle.runs.proofs.Proposals.{EachProposal, each-map, a-notice, a-proposal, a-view, Begun}
 
 -- an office's state, as it is in every run from a fresh one
 pub record Good (s : State) : Type 0 where
@@ -31,42 +32,42 @@ pub record Good (s : State) : Type 0 where
 
 -- what office j is sent satisfies P, where each proposal that it receives does
 pub mail-all : (P : Proposal → Type 0) (t j : ℕ) (ws : List Written) → EachProposal (λ p. receives p j ≡ true → P p) ws
-    → All (λ x. P (x .proposal)) (mail t j ws)
-mail-all P t j [] no-more = none
-mail-all P t j (notice n ∷ ws) (a-notice e) = mail-all P t j ws e
-mail-all P t j (view v ∷ ws) (a-view e) = mail-all P t j ws e
-mail-all P t j (proposal p ∷ ws) (a-proposal h e) =
+    → Every (λ x. P (x .proposal)) (mail t j ws)
+mail-all P t j [] none = none
+mail-all P t j (notice n ∷ ws) (more a-notice e) = mail-all P t j ws e
+mail-all P t j (view v ∷ ws) (more a-view e) = mail-all P t j ws e
+mail-all P t j (proposal p ∷ ws) (more (a-proposal h) e) =
     let r = mail-all P t j ws e in
-    if-cases (All (λ x. P (x .proposal))) (receives p j) _ _ (λ b. more (h b) r) (λ b. r)
+    if-cases (Every (λ x. P (x .proposal))) (receives p j) _ _ (λ b. more (h b) r) (λ b. r)
 
-mail-stamped : (t j : ℕ) (ws : List Written) → All (λ x. x .sent < t + 1) (mail t j ws)
+mail-stamped : (t j : ℕ) (ws : List Written) → Every (λ x. x .sent < t + 1) (mail t j ws)
 mail-stamped t j [] = none
 mail-stamped t j (notice n ∷ ws) = mail-stamped t j ws
 mail-stamped t j (view v ∷ ws) = mail-stamped t j ws
 mail-stamped t j (proposal p ∷ ws) =
     let r = mail-stamped t j ws in
     let lt : t < t + 1 = omega arith in
-    if-cases (All (λ x. x .sent < t + 1)) (receives p j) _ _ (λ b. more lt r) (λ b. r)
+    if-cases (Every (λ x. x .sent < t + 1)) (receives p j) _ _ (λ b. more lt r) (λ b. r)
 
 -- a proposal of a log after an answer: of the answer, or of the log before
-abbrev Entry : Proposal → ℕ → Sent
+abbrev Entry : Proposal → ℕ → SentRecord
 Entry p c = record { what = proposal p; clock = c }
 
-in-rest : {P : Type 0} {x y : Sent} {l : List Sent} → (x ≡ y → P) → P ⊎ List·Memᴰ x (y ∷ l) → P ⊎ List·Memᴰ x l
+in-rest : {P : Type 0} {x y : SentRecord} {l : List SentRecord} → (x ≡ y → P) → P ⊎ List·Memᴰ x (y ∷ l) → P ⊎ List·Memᴰ x l
 in-rest f (inl q) = inl q
 in-rest f (inr m) = ⊎-elim (λ e. inl (f e)) (λ k. inr k) (List·Memᴰ·cases-cons m)
 
-in-log : {P : Proposal → Type 0} {p : Proposal} {c : ℕ} (t : ℕ) (ws : List Written) (l : List Sent) → EachProposal P ws
+in-log : {P : Proposal → Type 0} {p : Proposal} {c : ℕ} (t : ℕ) (ws : List Written) (l : List SentRecord) → EachProposal P ws
     → List·Memᴰ (Entry p c) (logged t ws l) → P p ⊎ List·Memᴰ (Entry p c) l
-in-log t [] l no-more h = inr h
-in-log {P} {p} {c} t (notice n ∷ ws) l (a-notice e) h =
-    in-rest (λ q. let k : proposal p ≡ notice n = ap (λ (x : Sent). x .what) q in let z : _≡_ {A = ℕ} 0 1 = cc in absurd (omega arith))
+in-log t [] l none h = inr h
+in-log {P} {p} {c} t (notice n ∷ ws) l (more a-notice e) h =
+    in-rest (λ q. let k : proposal p ≡ notice n = ap (λ (x : SentRecord). x .what) q in let z : _≡_ {A = ℕ} 0 1 = cc in absurd (omega arith))
     (in-log t ws (record { what = notice n; clock = t } ∷ l) e h)
-in-log {P} {p} {c} t (view v ∷ ws) l (a-view e) h =
-    in-rest (λ q. let k : proposal p ≡ view v = ap (λ (x : Sent). x .what) q in let z : _≡_ {A = ℕ} 0 1 = cc in absurd (omega arith))
+in-log {P} {p} {c} t (view v ∷ ws) l (more a-view e) h =
+    in-rest (λ q. let k : proposal p ≡ view v = ap (λ (x : SentRecord). x .what) q in let z : _≡_ {A = ℕ} 0 1 = cc in absurd (omega arith))
     (in-log t ws (record { what = view v; clock = t } ∷ l) e h)
-in-log {P} {p} {c} t (proposal r ∷ ws) l (a-proposal y e) h =
-    in-rest (λ q. let k : proposal p ≡ proposal r = ap (λ (x : Sent). x .what) q in let z : r ≡ p = cc in subst P z y)
+in-log {P} {p} {c} t (proposal r ∷ ws) l (more (a-proposal y) e) h =
+    in-rest (λ q. let k : proposal p ≡ proposal r = ap (λ (x : SentRecord). x .what) q in let z : r ≡ p = cc in subst P z y)
     (in-log t ws (Entry r t ∷ l) e h)
 
 module _ (F : ℕ → Bool) where
@@ -77,9 +78,9 @@ module _ (F : ℕ → Bool) where
     pub owns : (o : ℕ) → o < 16 → (o ≡ x → ⊥) → w .state o .own ≡ o
     pub links : (i j : ℕ) → FromF F i j → w .link i j ≡ g .link i j
     pub shown : (i : ℕ) → InF F i → viewsIn (w .log i) ≡ g .shown i
-    pub valid : (i j : ℕ) → FromF F i j → All (λ x. Valid i j (x .proposal)) (w .link i j)
-    pub stamped : (i j : ℕ) → FromF F i j → All (λ x. x .sent < w .clock) (w .link i j)
-    pub named : (o j : ℕ) → o < 16 → j < 16 → All (λ x. x .proposal .sender ≡ o) (w .link o j)
+    pub valid : (i j : ℕ) → FromF F i j → Every (λ x. Valid i j (x .proposal)) (w .link i j)
+    pub stamped : (i j : ℕ) → FromF F i j → Every (λ x. x .sent < w .clock) (w .link i j)
+    pub named : (o j : ℕ) → o < 16 → j < 16 → Every (λ x. x .proposal .sender ≡ o) (w .link o j)
     pub below : (i : ℕ) → InF F i → (p : Proposal) → HasSent w i p → usedFor p i < p .number
 
   -- of all offices
@@ -103,7 +104,7 @@ module _ (F : ℕ → Bool) where
   }
 
   -- the arrays h say the same of the own parts of office i as g
-  pub record Kept (g h : Offices) (i : ℕ) : Type 0 where
+  pub record SameOwn (g h : Offices) (i : ℕ) : Type 0 where
     pub num : h .num i ≡ g .num i
     pub mode : h .mode i ≡ g .mode i
     pub net : h .net i ≡ g .net i
@@ -111,7 +112,7 @@ module _ (F : ℕ → Bool) where
     pub acc : h .acc i ≡ g .acc i
     pub used : h .used i ≡ g .used i
 
-  sim-kept : (s : State) (g h : Offices) (i : ℕ) → Kept g h i → Sim s g i → Sim s h i
+  sim-kept : (s : State) (g h : Offices) (i : ℕ) → SameOwn g h i → Sim s g i → Sim s h i
   sim-kept s g h i e v = record {
     own = v .own;
     num = v .num ∙ sym (e .num);
@@ -122,28 +123,28 @@ module _ (F : ℕ → Bool) where
     used = λ o lt. v .used o lt ∙ sym (ap (λ f. f o) (e .used));
   }
 
-  same-kept : {g h : Offices} {i : ℕ} → Same g h i → Kept g h i
+  same-kept : {g h : Offices} {i : ℕ} → Same g h i → SameOwn g h i
   same-kept e = record { num = e .num; mode = e .mode; net = e .net; stored = e .stored; acc = e .acc; used = e .used }
 
   -- what the world must know of the answer of office me
-  pub record Answer (me : ℕ) (o : Outcome) : Type 0 where
+  pub record GoodAnswer (me : ℕ) (o : Outcome) : Type 0 where
     pub is-good : Good (o .state)
     pub own : o .state .own ≡ me
     pub sends : EachProposal (λ p. (j : ℕ) → receives p j ≡ true → Valid me j p) (o .written)
     pub below : EachProposal (λ p. usedFor p me < p .number) (o .written)
     pub names : EachProposal (λ p. p .sender ≡ me) (o .written)
 
-  module _ (w : World) (g k : Offices) (me : ℕ) (o : Outcome) (s : Seen me w g) (a : Answer me o) where
+  module _ (w : World) (g k : Offices) (me : ℕ) (o : Outcome) (s : Seen me w g) (a : GoodAnswer me o) where
     each-to : (j : ℕ) → EachProposal (λ p. (j : ℕ) → receives p j ≡ true → Valid me j p) (o .written)
         → EachProposal (λ p. receives p j ≡ true → Valid me j p) (o .written)
     each-to j e = each-map (λ p h. h j) e
 
-    row-all : (P : ℕ → ℕ → Item → Type 0) (i j : ℕ) → All (P i j) (w .link i j) → All (P me j) (mail (w .clock) j (o .written))
-        → All (P i j) (answered w me (accepted o) .link i j)
+    row-all : (P : ℕ → ℕ → Item → Type 0) (i j : ℕ) → Every (P i j) (w .link i j) → Every (P me j) (mail (w .clock) j (o .written))
+        → Every (P i j) (answered w me (accepted o) .link i j)
     unfolding answered
     row-all P i j old new =
-        upd-cases (λ (i : ℕ) (f : ℕ → List Item). (i ≡ me → All (P me j) (w .link me j)) → (All (P i j) (w .link i j)) → All (P i j) (f j)) (w .link) me _ i
-        (λ q r. all-append (q refl) new) (λ n q r. r) (λ e. rw e at old) old
+        upd-cases (λ (i : ℕ) (f : ℕ → List Item). (i ≡ me → Every (P me j) (w .link me j)) → (Every (P i j) (w .link i j)) → Every (P i j) (f j)) (w .link) me _ i
+        (λ q r. every-append (q refl) new) (λ n q r. r) (λ e. rw e at old) old
 
     -- an answer of an office of A, with the arrays that it moved
     pub seen-moved : InF F me → Moved (w .clock) me g o k → SeenAll (answered w me (accepted o)) k
@@ -156,24 +157,24 @@ module _ (F : ℕ → Bool) where
       links = λ i j b. upd-cases (λ (i : ℕ) (f : ℕ → List Item). FromF F i j → f j ≡ k .link i j) (w .link) me _ i
           (λ b. ap (λ (l : List Item). l ++ mail (w .clock) j (o .written)) (s .links me j b) ∙ sym (m .mailed j (b .1)))
           (λ e b. s .links i j b ∙ sym (ap (λ f. f j) (m .elsewhere i e .link))) b;
-      shown = λ i b. upd-cases (λ (i : ℕ) (l : List Sent). InF F i → viewsIn l ≡ k .shown i) (w .log) me _ i
+      shown = λ i b. upd-cases (λ (i : ℕ) (l : List SentRecord). InF F i → viewsIn l ≡ k .shown i) (w .log) me _ i
           (λ b. views-logged (w .clock) (o .written) (w .log me) ∙ ap (shows (w .clock) (o .written)) (s .shown me b) ∙ sym (m .showed)) (λ e b. s .shown i b ∙ sym (m .elsewhere i e .shown)) b;
       valid = λ i j b. row-all (λ i j x. Valid i j (x .proposal)) i j (s .valid i j b)
           (mail-all (Valid me j) (w .clock) j (o .written) (each-to j (a .sends)));
-      stamped = λ i j b. row-all (λ i j x. x .sent < w .clock + 1) i j (all-map (λ x e. omega arith) (s .stamped i j b)) (mail-stamped (w .clock) j (o .written));
+      stamped = λ i j b. row-all (λ i j x. x .sent < w .clock + 1) i j (every-map (λ x e. omega arith) (s .stamped i j b)) (mail-stamped (w .clock) j (o .written));
       named = λ i j b c. row-all (λ i j x. x .proposal .sender ≡ i) i j (s .named i j b c)
           (mail-all (λ p. p .sender ≡ me) (w .clock) j (o .written) (each-map (λ p e f. e) (a .names)));
-      below = λ i b p h. upd-cases (λ (i : ℕ) (l : List Sent). InF F i → List·Memᴰ (Entry p (h .0)) l → usedFor p i < p .number)
+      below = λ i b p h. upd-cases (λ (i : ℕ) (l : List SentRecord). InF F i → List·Memᴰ (Entry p (h .0)) l → usedFor p i < p .number)
           (w .log) me _ i (λ b h. ⊎-elim (λ e. e) (λ e. s .below me b p (_, e)) (in-log (w .clock) (o .written) (w .log me) (a .below) h)) (λ n b h. s .below i b p (_, h))
           b (h .1);
     }
 
   -- the link from i to j becomes l, and the arrays h after g, of office x perhaps more
   pub record Linked (w : World) (g h : Offices) (x i j : ℕ) (l : List Item) : Type 1 where
-    pub kept : (a : ℕ) → (a ≡ x → ⊥) → Kept g h a
+    pub kept : (a : ℕ) → (a ≡ x → ⊥) → SameOwn g h a
     pub same-shown : h .shown ≡ g .shown
     pub links : (a b : ℕ) → FromF F a b → withLink w i j l .link a b ≡ h .link a b
-    pub part : (P : Item → Type 0) → All P (w .link i j) → All P l
+    pub part : (P : Item → Type 0) → Every P (w .link i j) → Every P l
 
   pub seen-linked : (w : World) (g h : Offices) (x i j : ℕ) (l : List Item) → SeenAll w g → Linked w g h x i j l → Seen x (withLink w i j l) h
   unfolding withLink
@@ -189,8 +190,8 @@ module _ (F : ℕ → Bool) where
     below = s .below;
   }
     where
-      place : (P : ℕ → ℕ → Item → Type 0) (a b : ℕ) → All (P a b) (w .link a b) → All (P a b) (upd (w .link) i (upd (w .link i) j l) a b)
-      place P a b old = upd2-cases (λ a b (m : List Item). All (P a b) (w .link a b) → All (P a b) m) (w .link) i j l a b (k .part (P i j)) (λ n o. o) old
+      place : (P : ℕ → ℕ → Item → Type 0) (a b : ℕ) → Every (P a b) (w .link a b) → Every (P a b) (upd (w .link) i (upd (w .link i) j l) a b)
+      place P a b old = upd2-cases (λ a b (m : List Item). Every (P a b) (w .link a b) → Every (P a b) m) (w .link) i j l a b (k .part (P i j)) (λ n o. o) old
 
   -- nothing happens
   pub seen-idle : (w : World) (g : Offices) → SeenAll w g → SeenAll (idle w) g
@@ -202,7 +203,7 @@ module _ (F : ℕ → Bool) where
     links = s .links;
     shown = s .shown;
     valid = s .valid;
-    stamped = λ i j b. all-map (λ x e. omega arith) (s .stamped i j b);
+    stamped = λ i j b. every-map (λ x e. omega arith) (s .stamped i j b);
     named = s .named;
     below = s .below;
   }
@@ -217,19 +218,19 @@ module _ (F : ℕ → Bool) where
     owns = λ i b n. upd-cases (λ (i : ℕ) (s : State). i < 16 → s .own ≡ i) (w .state) o (r .state) i (λ b. own) (λ m b. s .owns i b n) b;
     links = λ i j b. upd-cases (λ (i : ℕ) (f : ℕ → List Item). FromF F i j → f j ≡ g .link i j) (w .link) o _ i
         (λ b. absurd (out (b .0))) (λ m b. s .links i j b) b;
-    shown = λ i b. upd-cases (λ (i : ℕ) (l : List Sent). InF F i → viewsIn l ≡ g .shown i) (w .log) o _ i (λ b. absurd (out b)) (λ m b. s .shown i b) b;
-    valid = λ i j b. upd-cases (λ (i : ℕ) (f : ℕ → List Item). FromF F i j → All (λ x. Valid i j (x .proposal)) (f j)) (w .link) o _ i
+    shown = λ i b. upd-cases (λ (i : ℕ) (l : List SentRecord). InF F i → viewsIn l ≡ g .shown i) (w .log) o _ i (λ b. absurd (out b)) (λ m b. s .shown i b) b;
+    valid = λ i j b. upd-cases (λ (i : ℕ) (f : ℕ → List Item). FromF F i j → Every (λ x. Valid i j (x .proposal)) (f j)) (w .link) o _ i
         (λ b. absurd (out (b .0))) (λ m b. s .valid i j b) b;
-    stamped = λ i j b. upd-cases (λ (i : ℕ) (f : ℕ → List Item). FromF F i j → All (λ x. x .sent < w .clock + 1) (f j)) (w .link) o _ i
-        (λ b. absurd (out (b .0))) (λ m b. all-map (λ x e. omega arith) (s .stamped i j b)) b;
-    named = λ i j b c. upd-cases (λ (i : ℕ) (f : ℕ → List Item). i < 16 → All (λ x. x .proposal .sender ≡ i) (f j)) (w .link) o _ i
-        (λ b. all-append (s .named o j b c) (mail-all (λ p. p .sender ≡ o) (w .clock) j (r .written) (each-map (λ p e f. e) e))) (λ m b. s .named i j b c) b;
-    below = λ i b p h. upd-cases (λ (i : ℕ) (l : List Sent). InF F i → List·Memᴰ (Entry p (h .0)) l → usedFor p i < p .number)
+    stamped = λ i j b. upd-cases (λ (i : ℕ) (f : ℕ → List Item). FromF F i j → Every (λ x. x .sent < w .clock + 1) (f j)) (w .link) o _ i
+        (λ b. absurd (out (b .0))) (λ m b. every-map (λ x e. omega arith) (s .stamped i j b)) b;
+    named = λ i j b c. upd-cases (λ (i : ℕ) (f : ℕ → List Item). i < 16 → Every (λ x. x .proposal .sender ≡ i) (f j)) (w .link) o _ i
+        (λ b. every-append (s .named o j b c) (mail-all (λ p. p .sender ≡ o) (w .clock) j (r .written) (each-map (λ p e f. e) e))) (λ m b. s .named i j b c) b;
+    below = λ i b p h. upd-cases (λ (i : ℕ) (l : List SentRecord). InF F i → List·Memᴰ (Entry p (h .0)) l → usedFor p i < p .number)
         (w .log) o _ i (λ b. absurd (out b)) (λ n b h. s .below i b p (_, h)) b (h .1);
   }
 
   -- the arrays change for office x alone, and not its links and its views
-  pub seen-turned : (w : World) (g h : Offices) (x : ℕ) → SeenAll w g → ((a : ℕ) → (a ≡ x → ⊥) → Kept g h a) → h .link ≡ g .link → h .shown ≡ g .shown
+  pub seen-turned : (w : World) (g h : Offices) (x : ℕ) → SeenAll w g → ((a : ℕ) → (a ≡ x → ⊥) → SameOwn g h a) → h .link ≡ g .link → h .shown ≡ g .shown
       → Seen x w h
   seen-turned w g h x s k l v = record {
     sim = λ a b n. sim-kept (w .state a) g h a (k a n) (s .sim a b (below-sixteen (b .0)));

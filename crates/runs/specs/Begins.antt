@@ -3,10 +3,11 @@ use mathlib.Core.Path.{_≡_}
 use mathlib.Core.Bool.{Bool, true}
 use mathlib.Core.List.{List, [], _∷_, List·Memᴰ}
 use Prim.Native.Nat.{ℕ, _≤_, _<_}
+use Rattle.laws.specs.Lists.{Every}
 use Rattle.records.specs.declared.Proposal.{Proposal}
 use Rattle.rules.specs.State.{State}
 use Rattle.rules.specs.Rules.{proposal, fresh}
-use Rattle.runs.specs.World.{Item, World, WorldEvent, Nth, Among, All}
+use Rattle.runs.specs.World.{Item, World, WorldEvent, Nth, Among}
 
 -- office i is one of F
 abbrev pub InF : (ℕ → Bool) → ℕ → Type 0
@@ -16,7 +17,7 @@ pub record Begins (F : ℕ → Bool) (states : ℕ → State) (links : ℕ → �
   pub starts-fresh : (i : ℕ) → InF F i → states i ≡ fresh i
   pub no-mail : (i j : ℕ) → InF F i → links i j ≡ []
   pub others-own : (o : ℕ) → o < 16 → (InF F o → ⊥) → states o .own ≡ o
-  pub others-mail : (o j : ℕ) → o < 16 → (InF F o → ⊥) → All (λ x. x .proposal .sender ≡ o) (links o j)
+  pub others-mail : (o j : ℕ) → o < 16 → (InF F o → ⊥) → Every (λ x. x .proposal .sender ≡ o) (links o j)
 
 -- the events of the list are of the sixteen offices and their links
 abbrev pub AllAmong : List WorldEvent → Type 0

@@ -12,29 +12,29 @@ use Rattle.rules.specs.Rules.{Written, view, netAfter, withNet, opened, propose
 use Rattle.rules.specs.Refusals.{Event, aReport, aProposal, eventOf, Result, stepOf}
 
 -- what is handed to an office: bytes, and an output of length room
-pub record Handed : Type 0 where
+pub record Input : Type 0 where
   pub bytes : List ℕ
   pub room : ℕ
 
-unfoldable pub answerTo : State → Handed → Result
+unfoldable pub answerTo : State → Input → Result
 answerTo s h = stepOf s (h .bytes) (h .room)
 
-abbrev pub nextState : State → Handed → State
+abbrev pub nextState : State → Input → State
 nextState s h = answerTo s h .state
 
 -- an entry of the log: the state before, and what was handed to it; the answer is that of the step
 pub record LogEntry : Type 0 where
   pub before : State
-  pub handed : Handed
+  pub handed : Input
 
 abbrev pub answerOf : LogEntry → Result
 answerOf e = answerTo (e .before) (e .handed)
 
 -- the run from a state: the state after, the log, and the records sent, in order
-abbrev pub stateAfter : State → List Handed → State
+abbrev pub stateAfter : State → List Input → State
 stateAfter = runs nextState
 
-unfoldable pub logOf : State → List Handed → List LogEntry
+unfoldable pub logOf : State → List Input → List LogEntry
 logOf s [] = []
 logOf s (h ∷ hs) = record { before = s; handed = h } ∷ logOf (nextState s h) hs
 

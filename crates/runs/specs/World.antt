@@ -5,6 +5,7 @@ use mathlib.Core.List.{List, [], _∷_, _++_}
 use Prim.Native.Nat.{ℕ, zero, suc, _+_, _^_, _<_}
 use lib.ListN.{length, take, getD}
 use lib.Dec.{eqb}
+use Rattle.laws.specs.Lists.{runs}
 use Rattle.laws.specs.Upd.{upd, ifb}
 use Rattle.records.specs.Layout.{encodeReport, encodeProposal}
 use Rattle.records.specs.declared.Report.{Report}
@@ -20,7 +21,7 @@ pub record Item : Type 0 where
   pub sent : ℕ
 
 -- a record that an office sent, and the clock of its event
-pub record Sent : Type 0 where
+pub record SentRecord : Type 0 where
   pub what : Written
   pub clock : ℕ
 
@@ -35,7 +36,7 @@ pub record World : Type 0 where
   pub state : ℕ → State
   pub link : ℕ → ℕ → List Item
   pub clock : ℕ
-  pub log : ℕ → List Sent
+  pub log : ℕ → List SentRecord
 
 -- the world before the first event
 unfoldable pub atFirst : (ℕ → State) → (ℕ → ℕ → List Item) → World
@@ -56,7 +57,7 @@ mail t j (proposal p ∷ ws) = ifb (receives p j) (record { proposal = p; sent =
 mail t j (view v ∷ ws) = mail t j ws
 
 -- what an answer adds to the log
-abbrev pub logged : ℕ → List Written → List Sent → List Sent
+abbrev pub logged : ℕ → List Written → List SentRecord → List SentRecord
 logged t [] l = l
 logged t (r ∷ ws) l = logged t ws (record { what = r; clock = t } ∷ l)
 
@@ -66,7 +67,7 @@ viewOn (notice n) t vs = vs
 viewOn (proposal p) t vs = vs
 viewOn (view v) t vs = record { view = v; sent = t } ∷ vs
 
-abbrev pub viewsIn : List Sent → List SentView
+abbrev pub viewsIn : List SentRecord → List SentView
 viewsIn [] = []
 viewsIn (x ∷ l) = viewOn (x .what) (x .clock) (viewsIn l)
 
@@ -96,24 +97,23 @@ without zero (x ∷ l) = l
 without (suc n) (x ∷ l) = x ∷ without n l
 
 -- what office o answers to a report, and to a proposal
-unfoldable pub onReport : World → ℕ → Report → ℕ → Result
-onReport w o r room = stepOf (w .state o) (encodeReport r) room
+unfoldable pub reportAnswer : World → ℕ → Report → ℕ → Result
+reportAnswer w o r room = stepOf (w .state o) (encodeReport r) room
 
-unfoldable pub onProposal : World → ℕ → Proposal → ℕ → Result
-onProposal w o p room = stepOf (w .state o) (encodeProposal p) room
+unfoldable pub proposalAnswer : World → ℕ → Proposal → ℕ → Result
+proposalAnswer w o p room = stepOf (w .state o) (encodeProposal p) room
 
 abbrev pub delivered : World → ℕ → ℕ → ℕ → List Item → World
 delivered w i j room [] = idle w
-delivered w i j room (x ∷ l) = answered (withLink w i j l) j (onProposal w j (x .proposal) room)
+delivered w i j room (x ∷ l) = answered (withLink w i j l) j (proposalAnswer w j (x .proposal) room)
 
 unfoldable pub next : World → WorldEvent → World
-next w (report o r room) = answered w o (onReport w o r room)
+next w (report o r room) = answered w o (reportAnswer w o r room)
 next w (delivery i j room) = delivered w i j room (w .link i j)
 next w (loss i j place) = idle (withLink w i j (without place (w .link i j)))
 
-unfoldable pub run : World → List WorldEvent → World
-run w [] = w
-run w (e ∷ es) = run (next w e) es
+abbrev pub run : World → List WorldEvent → World
+run = runs next
 
 -- the world before event n of the list
 abbrev pub at : World → List WorldEvent → ℕ → World
@@ -125,13 +125,13 @@ Nth es n e = (n < length es) × (getD es n e ≡ e)
 
 -- the answer r that office o gives at an event, where it gives one
 pub data Gives (w : World) : WorldEvent → ℕ → Result → Type 0 where
-  to-report : (o : ℕ) (r : Report) (room : ℕ) → Gives w (report o r room) o (onReport w o r room)
+  to-report : (o : ℕ) (r : Report) (room : ℕ) → Gives w (report o r room) o (reportAnswer w o r room)
   to-proposal : (i o room : ℕ) (x : Item) (l : List Item) → w .link i o ≡ x ∷ l
-      → Gives w (delivery i o room) o (onProposal w o (x .proposal) room)
+      → Gives w (delivery i o room) o (proposalAnswer w o (x .proposal) room)
 
 -- what the accepted reports of office i make of the set x by step 1
 abbrev pub netOne : World → WorldEvent → ℕ → ℕ → ℕ
-netOne w (report o r room) i x = ifb (eqb o i && eqb (onReport w o r room .refusal) 0) (netAfter x r) x
+netOne w (report o r room) i x = ifb (eqb o i && eqb (reportAnswer w o r room .refusal) 0) (netAfter x r) x
 netOne w (delivery a b room) i x = x
 netOne w (loss a b place) i x = x
 
@@ -144,7 +144,3 @@ abbrev pub Among : WorldEvent → Type 0
 Among (report o r room) = (o < 16) × (r .joining .bits < 2 ^ 64) × (r .leaving .bits < 2 ^ 64)
 Among (delivery i j room) = (i < 16) × (j < 16) × (i ≡ j → ⊥)
 Among (loss i j place) = (i < 16) × (j < 16) × (i ≡ j → ⊥)
-
-pub data All (P : Item → Type 0) : List Item → Type 0 where
-  none : All P []
-  more : {x : Item} {l : List Item} → P x → All P l → All P (x ∷ l)

@@ -1,6 +1,6 @@
 -- The offices of a set, gathered by shifts and masks.
 use mathlib.Core.Path.{_≡_, refl, sym, ap, _∙_}
-use mathlib.Core.Bool.{Bool, true, false, not, _&&_, _||_, and-true, and-false, or-false, false≢true}
+use mathlib.Core.Bool.{Bool, true, false, not, _&&_, _||_, and-true, and-false, or-false}
 use Prim.Native.Nat.{ℕ, _+_, _*_, _/_, _%_, _^_, _<_}
 use native.Mathlib.Omega.{arith}
 use native.Mathlib.Nat.{add-comm}
@@ -11,7 +11,7 @@ use borrow.Author.Tests.{eqb-true, not-true}
 use Rattle.laws.specs.Bit.{bit}
 use Rattle.laws.proofs.Bit.{bit-shift}
 use Rattle.laws.specs.Fin.{allb}
-use Rattle.laws.proofs.Fin.{allb-out}
+use Rattle.laws.proofs.Fin.{allb-out, and-iff}
 use Rattle.laws.specs.Upd.{ifb}
 use Rattle.seats.specs.Seats.{has, serves, officesOf, unionOf}
 use Rattle.seats.proofs.Laws.{has-union, has-and, has-offices, offices-lt, same-seats, has-high}
@@ -48,10 +48,6 @@ has-shift : (k x s : ℕ) → has (x / 2 ^ k) s ≡ has x (k + s)
 unfolding has
 has-shift k x s = ap (λ (n : ℕ). eqb n 1) (bit-shift k x s)
 
-both : (a b : Bool) → a && b ≡ true → (a ≡ true) × (b ≡ true)
-both true b e = (refl, e)
-both false b e = absurd (false≢true e)
-
 -- y has no bit outside the mask n
 abbrev Within : ℕ → ℕ → Type 0
 Within n y = (s : ℕ) → has n s ≡ false → has y s ≡ false
@@ -67,8 +63,8 @@ moves k n m p q = has m q && (eqb p (ifb (has n q) q (k + q)) && not (has n q &&
 fold-at : (k n m p q y : ℕ) → Within n y → moves k n m p q ≡ true → has (fold k m y) q ≡ has y p
 unfolding fold
 fold-at k n m p q y w e =
-    let c = both (has m q) _ e in
-    let d = both (eqb p (ifb (has n q) q (k + q))) _ (c .1) in
+    let c = and-iff (has m q) _ .0 e in
+    let d = and-iff (eqb p (ifb (has n q) q (k + q))) _ .0 (c .1) in
     has-and (bitOr y (y / 2 ^ k)) m q
     ∙ rw (c .0, and-true, has-or y (y / 2 ^ k) q, has-shift k y q) (go (has n q) refl (eqb-true _ _ (d .0)) (d .1))
   where

@@ -9,7 +9,7 @@ use lib.Dec.{eqb, ltb, lit<}
 use lib.Bits.{bitOr, bitAnd, or-lt, or-shifted-r, or-zero-r, and-le-l}
 use native.Mathlib.Nat.{one-mul}
 use lib.Pow.{pow-lt}
-use borrow.Author.Tests.{eq-eqb, ne-eqb, eqb-true, ltb-true, lt-ltb, le-ltb}
+use borrow.Author.Tests.{eq-eqb, ne-eqb, eqb-true, lt-ltb, le-ltb}
 use Rattle.laws.specs.Bit.{bit}
 use Rattle.laws.proofs.Bit.{bit-or, bit-and, bit-not, bit-lt, bit-zero, bit-pow-same, bit-pow-other, bit-ext, bit-high, bit-shl, bit-shl-low}
 use Rattle.laws.specs.Fin.{allb}
@@ -120,15 +120,6 @@ pub without-lt : (x y : ℕ) → x < 2 ^ 64 → withoutOf x y < 2 ^ 64
 unfolding withoutOf
 without-lt x y hx = let h = and-le-l x (2 ^ 64 - 1 - y) in omega arith
 
-pub insert-lt : (x s : ℕ) → x < 2 ^ 64 → insertOf x s < 2 ^ 64
-unfolding insertOf unionOf
-insert-lt x s hx =
-    if-cases (λ (n : ℕ). n < 2 ^ 64) (ltb s 64) (unionOf x (2 ^ s)) x (λ e. union-lt x (2 ^ s) hx (pow-lt (ltb-true s 64 e))) (λ e. hx)
-
-pub remove-lt : (x s : ℕ) → x < 2 ^ 64 → removeOf x s < 2 ^ 64
-unfolding removeOf withoutOf
-remove-lt x s hx = if-cases (λ (n : ℕ). n < 2 ^ 64) (ltb s 64) (withoutOf x (2 ^ s)) x (λ e. without-lt x (2 ^ s) hx) (λ e. hx)
-
 -- two sets with the same seats are equal
 pub same-seats : (x y : ℕ) → x < 2 ^ 64 → y < 2 ^ 64 → ((s : ℕ) → s < 64 → has x s ≡ has y s) → x ≡ y
 unfolding has
@@ -184,10 +175,6 @@ serves-seat x o e =
 pub serves-below : (x o : ℕ) → x < 2 ^ 64 → serves x o ≡ true → o < 16
 unfolding officeOf
 serves-below x o hx e = let w = serves-seat x o e in let h = has-below x (w .0) hx (w .2) in let q = w .1 in omega arith
-
-pub serves-some : (x o : ℕ) → serves x o ≡ true → x ≡ 0 → ⊥
-serves-some x o e z =
-    let w = serves-seat x o e in false≢true (sym (has-empty (w .0)) ∙ ap (λ (n : ℕ). has n (w .0)) (sym z) ∙ w .2)
 
 -- bit k of a packed number
 pub packed-lt : (n : ℕ) (p : ℕ → Bool) → packed n p < 2 ^ n

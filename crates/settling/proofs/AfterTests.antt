@@ -9,14 +9,14 @@ use native.Mathlib.Decide.{ℕ-discrete, decLt}
 use lib.ListN.{length, getD}
 use lib.Dec.{eqb}
 use borrow.Author.Tests.{ne-eqb}
-use Rattle.laws.specs.Upd.{ifb, upd}
+use Rattle.laws.specs.Upd.{ifb, upd, upd2}
 use Rattle.laws.proofs.Upd.{upd-same, upd-other}
 use Rattle.laws.proofs.Fin.{if-cases}
 use Rattle.seats.specs.Seats.{serves}
 use Rattle.records.specs.declared.Proposal.{Proposal}
 use Rattle.rules.specs.State.{Mode, None, Fast, Slow, Slot, slow, kindOf, nothing, keeping, usedFor}
 use Rattle.runs.specs.World.{Item, without}
-use Rattle.runs.proofs.Grid.{upd2, upd2-same, upd2-other}
+use Rattle.laws.proofs.Grid.{upd2-same, upd2-other}
 use Rattle.runs.proofs.Links.{snoc-not-nil, snoc-tail}
 use Rattle.runs.proofs.Arrays.{Offices, mailTo, renet, propose, receive, conclude, relink, Match, other, Proposes, Silent, Chosen, joins, starts, Agreed}
 use Rattle.runs.proofs.Arrays.{SlowTest, not-called, called, not-agreed, agreed, Tests, both, Arrives}

@@ -7,35 +7,27 @@ use mathlib.Core.List.{List, [], _∷_, _++_, List·Memᴰ, List·Memᴰ·head, 
 use Prim.Native.Nat.{ℕ, suc, _+_, _-_, _*_, _≤_, _<_}
 use native.Mathlib.Omega.{arith}
 use native.Mathlib.Nat.{mul-le-mul-left}
-use native.Mathlib.Decide.{ℕ-discrete}
 use lib.ListN.{length, length-append}
 use lib.Dec.{eqb, ltb}
 use borrow.Author.Tests.{ltb-false, eqb-false, ne-eqb, not-true}
-use Rattle.laws.specs.Upd.{upd, ifb}
-use Rattle.laws.proofs.Upd.{upd-same, upd-other, upd-cases}
+use Rattle.laws.specs.Lists.{Every, none, more}
+use Rattle.laws.proofs.Lists.{every-append, every-head, every-map, every-tail}
+use Rattle.laws.specs.Upd.{upd, ifb, upd2}
+use Rattle.laws.proofs.Upd.{upd-same, upd-other, upd-cases, upd-both}
 use Rattle.laws.proofs.Fin.{and-l, and-r, if-cases, if-le}
 use Rattle.seats.specs.Seats.{serves}
 use Rattle.records.specs.declared.Proposal.{Proposal}
 use Rattle.rules.specs.State.{Slow, fast, slow}
-use Rattle.runs.specs.World.{Item, All, none, more, without}
-use Rattle.runs.proofs.Grid.{upd2, upd2-cases}
+use Rattle.runs.specs.World.{Item, without}
+use Rattle.laws.proofs.Grid.{upd2-cases}
 use Rattle.runs.proofs.Arrays.{Offices, mailTo, propose, receive, conclude, relink, Proposes, Calls, Chosen}
 use Rattle.runs.proofs.Arrays.{SlowTest, not-called, called, AgreementTest, not-agreed, agreed, both}
-use Rattle.runs.proofs.Links.{all-map, all-append, all-head, all-tail, all-without}
+use Rattle.runs.proofs.Links.{every-without}
 use Rattle.settling.specs.Statement.{between, onWay, countOf, OfA}
 use Rattle.settling.proofs.Invariants.{Losing, Inv, HappensFairly, fair-idle, fair-loss, fair-leave, fair-report, fair-store, fair-answer}
 use Rattle.settling.proofs.Count.{total, total-link, total-else, total-grow, total-mono, total-length, over, over-one, over-bound}
 use Rattle.settling.proofs.Count.{isOld, older, older-length, older-snoc, older-without, length-without, upTo, upTo-length, upTo-entered}
 use Rattle.settling.proofs.Joined.{Matched, joined}
-
--- one place of two arrays, by cases
-upd-both : {A B : Type 0} (P : A → B → Type 0) (f : ℕ → A) (g : ℕ → B) (i : ℕ) (v : A) (w : B) (j : ℕ) → P v w → P (f j) (g j)
-    → P (upd f i v j) (upd g i w j)
-upd-both P f g i v w j at other = go (ℕ-discrete j i)
-  where
-    go : Dec (j ≡ i) → P (upd f i v j) (upd g i w j)
-    go (yes e) = rw (e, upd-same f i v, upd-same g i w) at
-    go (no n) = rw (upd-other f i v j n, upd-other g i w j n) other
 
 -- the rounds r become r', so that n is one of them; a new one costs one of c
 data Round (n c : ℕ) (r : List ℕ) : List ℕ → Type 0 where
@@ -70,7 +62,7 @@ module _ (A : ℕ) (last : ℕ → ℕ) (T P : ℕ) (reported : (i : ℕ) → Of
 
   -- since T: the rounds r, the number s of slow proposals of each office, d deliveries; e more rounds may be opened now
   pub record Since (e : ℕ) (r : List ℕ) (s : ℕ → ℕ) (d : ℕ) (g : Offices) : Type 0 where
-    of-round : (i j : ℕ) → OfA A i → OfA A j → (i ≡ j → ⊥) → All (OfRound r) (g .link i j)
+    of-round : (i j : ℕ) → OfA A i → OfA A j → (i ≡ j → ⊥) → Every (OfRound r) (g .link i j)
     rounds : e + length r + total A (older T) (g .link) + over A (λ i. notSlow (g .made i)) ≤ P + countOf A
     proposals : (i : ℕ) → OfA A i → s i ≤ upTo (g .num i) r
     moved : d + total A length (g .link) ≤ P + (countOf A - 1) * over A s
@@ -94,14 +86,14 @@ module _ (A : ℕ) (last : ℕ → ℕ) (T P : ℕ) (reported : (i : ℕ) → Of
         }
 
     -- one link changes, so that e' and d' are paid
-    relinked : {e' d' : ℕ} (i j : ℕ) (l : List Item) → (OfA A i → OfA A j → (i ≡ j → ⊥) → All (OfRound r) l)
+    relinked : {e' d' : ℕ} (i j : ℕ) (l : List Item) → (OfA A i → OfA A j → (i ≡ j → ⊥) → Every (OfRound r) l)
         → e' + total A (older T) (upd2 (g .link) i j l) ≤ e + total A (older T) (g .link)
         → d' + total A length (upd2 (g .link) i j l) ≤ d + total A length (g .link)
         → Since e r s d g → Since e' r s d' (relink g i j l)
     unfolding relink
     relinked {e'} {d'} i j l all a b q =
         record {
-          of-round = λ k m hk hm n. upd2-cases (λ k m l. OfA A k → OfA A m → (k ≡ m → ⊥) → All (OfRound r) l) (g .link) i j l k m
+          of-round = λ k m hk hm n. upd2-cases (λ k m l. OfA A k → OfA A m → (k ≡ m → ⊥) → Every (OfRound r) l) (g .link) i j l k m
               all (λ _. q .of-round k m) hk hm n;
           rounds = omega (arith, q .rounds);
           proposals = q .proposals;
@@ -120,12 +112,12 @@ module _ (A : ℕ) (last : ℕ → ℕ) (T P : ℕ) (reported : (i : ℕ) → Of
             let b = total-link A length (g .link) i j l (h .from-office) (h .to-office, v) (h .others) in
             let c = older-without T place (g .link i j) in
             let f = length-without place (g .link i j) in
-            relinked i j l (λ hi hj n. all-without place (g .link i j) (q .of-round i j hi hj n)) (omega arith) (omega arith) q
+            relinked i j l (λ hi hj n. every-without place (g .link i j) (q .of-round i j hi hj n)) (omega arith) (omega arith) q
         go false v =
             let out : between A i j ≡ false = rw (h .from-office .1, v) in
             let a = total-else A (older T) (g .link) i j l (h .from-office .0) (h .to-office) out in
             let b = total-else A length (g .link) i j l (h .from-office .0) (h .to-office) out in
-            relinked i j l (λ hi hj n. all-without place (g .link i j) (q .of-round i j hi hj n)) (omega arith) (omega arith) q
+            relinked i j l (λ hi hj n. every-without place (g .link i j) (q .of-round i j hi hj n)) (omega arith) (omega arith) q
 
     -- an arrival is one delivery between offices of A, and takes an item away that may be old
     received : (me i : ℕ) (p : Proposal) (l : List Item) (x : Item) → OfA A me → OfA A i → (i ≡ me → ⊥) → g .link i me ≡ x ∷ l
@@ -137,7 +129,7 @@ module _ (A : ℕ) (last : ℕ → ℕ) (T P : ℕ) (reported : (i : ℕ) → Of
         let c : older T (g .link i me) ≡ isOld T x + older T l = ap (older T) top in
         let f : length (g .link i me) ≡ suc (length l) = ap length top in
         let k : Since (e + isOld T x) r s (d + 1) (relink g i me l)
-        = relinked i me l (λ hi hm n. all-tail (rw top at (q .of-round i me hi hm n))) (omega arith) (omega arith) q in
+        = relinked i me l (λ hi hm n. every-tail (rw top at (q .of-round i me hi hm n))) (omega arith) (omega arith) q in
         record { of-round = k .of-round; rounds = k .rounds; proposals = k .proposals; moved = k .moved }
 
     -- or comes from elsewhere
@@ -170,11 +162,11 @@ module _ (A : ℕ) (last : ℕ → ℕ) (T P : ℕ) (reported : (i : ℕ) → Of
         let f' : upd s me (s me + 1) me ≡ s me + 1 = upd-same s me (s me + 1) in
         let one-more : over A (upd s me (s me + 1)) ≡ over A s + 1 = omega arith in
         let z = round-length n in
-        let keep : (i j : ℕ) → OfA A i → OfA A j → (i ≡ j → ⊥) → All (OfRound r') (g .link i j)
-        = λ i j hi hj ne. all-map (λ x f ge. let v = f ge in (v .0, v .1, round-keeps n (v .2))) (q .of-round i j hi hj ne) in
+        let keep : (i j : ℕ) → OfA A i → OfA A j → (i ≡ j → ⊥) → Every (OfRound r') (g .link i j)
+        = λ i j hi hj ne. every-map (λ x f ge. let v = f ge in (v .0, v .1, round-keeps n (v .2))) (q .of-round i j hi hj ne) in
         record {
-          of-round = λ i j hi hj ne. upd-cases (λ k row. OfA A k → (k ≡ j → ⊥) → All (OfRound r') (row j)) (g .link) me row i
-              (λ hi ne. all-append (keep me j hi hj ne) (if-cases (All (OfRound r')) (serves (p .members .bits) j && not (eqb j (p .sender))) _ _
+          of-round = λ i j hi hj ne. upd-cases (λ k row. OfA A k → (k ≡ j → ⊥) → Every (OfRound r') (row j)) (g .link) me row i
+              (λ hi ne. every-append (keep me j hi hj ne) (if-cases (Every (OfRound r')) (serves (p .members .bits) j && not (eqb j (p .sender))) _ _
               (λ _. more (λ _. (h .of-kind, h .of-net ∙ net, round-mem n)) none) (λ _. none)))
               (λ _ hi ne. keep i j hi hj ne) hi ne;
           rounds = omega (arith, q .rounds);
@@ -209,7 +201,7 @@ module _ (A : ℕ) (last : ℕ → ℕ) (T P : ℕ) (reported : (i : ℕ) → Of
           go true o k = let b : isOld T x ≡ 1 = rw o in (n ∷ r, opens (omega arith))
           go false o (inl k) = let b : notSlow (g .made me) ≡ 1 = rw k in (n ∷ r, opens (omega arith))
           go false o (inr k) =
-              let v = all-head (rw (a .oldest) at (q .of-round i me (a .from) (a .at .0) (a .others))) (ltb-false (x .sent) T o) in
+              let v = every-head (rw (a .oldest) at (q .of-round i me (a .from) (a .at .0) (a .others))) (ltb-false (x .sent) T o) in
               let b : p .kind ≡ slow = rw (a .same) at (v .0) in
               let m : List·Memᴰ (p .number) r = rw (a .same) at (v .2) in
               (r, known (rw (joined inv a b k c ch) m))
@@ -247,15 +239,15 @@ module _ (A : ℕ) (last : ℕ → ℕ) (T P : ℕ) (reported : (i : ℕ) → Of
       (w .0, w .1, rw e (agreement-tested v (w .2)))
 
   -- what has been delivered so far
-  pub delivered : {d : ℕ} {g : Offices} → Goes d g → d ≤ P + countOf A * (countOf A - 1) * (P + countOf A)
-  delivered {d} {g} (r, s, q) =
+  pub deliveries-bound : {d : ℕ} {g : Offices} → Goes d g → d ≤ P + countOf A * (countOf A - 1) * (P + countOf A)
+  deliveries-bound {d} {g} (r, s, q) =
       let a = over-bound A s (P + countOf A) (λ i hi. omega (arith, q .proposals i hi, upTo-length (g .num i) r, q .rounds)) in
       let b = mul-le-mul-left (countOf A - 1) a in
       omega (arith, q .moved)
 
 -- at T
 pub at-first : (A : ℕ) (last : ℕ → ℕ) (T : ℕ) (reported : (i : ℕ) → OfA A i → last i < T) (g : Offices)
-    → ((i j : ℕ) → OfA A i → OfA A j → (i ≡ j → ⊥) → All (λ x. x .sent < T) (g .link i j)) → Goes A last T (onWay A (g .link)) reported 0 g
+    → ((i j : ℕ) → OfA A i → OfA A j → (i ≡ j → ⊥) → Every (λ x. x .sent < T) (g .link i j)) → Goes A last T (onWay A (g .link)) reported 0 g
 unfolding notSlow
 at-first A last T reported g early =
     let a = total-length A (g .link) in
@@ -264,7 +256,7 @@ at-first A last T reported g early =
       [],
       (λ _. 0),
       record {
-        of-round = λ i j hi hj n. all-map (λ x lt ge. absurd (omega arith)) (early i j hi hj n);
+        of-round = λ i j hi hj n. every-map (λ x lt ge. absurd (omega arith)) (early i j hi hj n);
         rounds = omega arith;
         proposals = λ i hi. omega arith;
         moved = omega arith;

@@ -7,13 +7,12 @@ use native.Mathlib.Omega.{arith}
 use lib.ListN.{length}
 use lib.Dec.{ltb}
 use borrow.Author.Tests.{ltb-true, ltb-false, eq-eqb, ne-eqb, lt-ltb, le-ltb}
-use Rattle.laws.specs.Upd.{upd, ifb}
+use Rattle.laws.specs.Upd.{upd, ifb, upd2}
 use Rattle.laws.proofs.Upd.{upd-same, upd-other}
 use Rattle.laws.specs.Fin.{sum}
 use Rattle.laws.proofs.Fin.{sum-ext, sum-one, sum-add, sum-times, sum-mono, if-le}
 use Rattle.seats.specs.Seats.{serves}
 use Rattle.runs.specs.World.{Item, without}
-use Rattle.runs.proofs.Grid.{upd2}
 use Rattle.settling.specs.Statement.{between, onWay, countOf}
 
 -- an office of A has one fewer others

@@ -5,11 +5,12 @@ use mathlib.Core.Logic.{_⊎_}
 use mathlib.Core.List.{List, [], _∷_, _++_}
 use Prim.Native.Nat.{ℕ, _≤_, _<_}
 use lib.ListN.{length, getD}
+use Rattle.laws.specs.Lists.{Every}
 use Rattle.laws.specs.Upd.{ifb}
 use Rattle.seats.specs.Seats.{serves}
 use Rattle.records.specs.declared.Proposal.{Proposal}
 use Rattle.rules.specs.State.{Mode, None, Fast, fast, slow, kindOf, keeping, usedFor}
-use Rattle.runs.specs.World.{Item, SentView, All, without}
+use Rattle.runs.specs.World.{Item, SentView, without}
 use Rattle.runs.proofs.Arrays.{Offices, renet, propose, receive, relink, viewWith, Match, Proposes, Silent, Agreed, Tests, Arrives, Numbers}
 use Rattle.settling.specs.Statement.{OfA}
 
@@ -107,7 +108,7 @@ module _ (A : ℕ) (last : ℕ → ℕ) where
     -- who has used a slow proposal is not behind it, and tells so only by a higher number
     pub not-behind : (i j : ℕ) → Done t i → OfA A j → (i ≡ j → ⊥) → g .made i .kind ≡ slow → g .used j i ≡ g .num i → g .num i ≤ g .num j
     pub tells-above : (i j : ℕ) → Done t i → OfA A j → (i ≡ j → ⊥) → g .made i .kind ≡ slow
-        → All (λ x. usedFor (x .proposal) i ≡ g .num i → g .num i < x .proposal .number) (g .link j i)
+        → Every (λ x. usedFor (x .proposal) i ≡ g .num i → g .num i < x .proposal .number) (g .link j i)
 
   pub record Core (t : ℕ) (g : Offices) : Type 0 where
     pub numbers : Numbers (serves A) g

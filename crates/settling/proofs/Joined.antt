@@ -4,6 +4,7 @@ use mathlib.Core.List.{List, _∷_}
 use Prim.Native.Nat.{ℕ, _≤_, _<_}
 use native.Mathlib.Omega.{arith}
 use native.Mathlib.Decide.{ℕ-discrete}
+use Rattle.laws.proofs.Lists.{every-head}
 use Rattle.laws.proofs.Upd.{upd-same, upd-other}
 use Rattle.records.specs.declared.Proposal.{Proposal}
 use Rattle.rules.specs.State.{Mode, None, Fast, Slow, fast, slow, kindOf, keeping, usedFor}
@@ -11,7 +12,7 @@ use Rattle.runs.specs.World.{Item}
 use Rattle.runs.proofs.Arrays.{Offices, receive, Match, other, Calls, in-none, heard-slow, is-used, above-own, Joinable, Chosen, joins, starts}
 use Rattle.settling.specs.Statement.{OfA}
 use Rattle.settling.proofs.Invariants.{Done, Inv}
-use Rattle.runs.proofs.Links.{all-head, rising-head}
+use Rattle.runs.proofs.Links.{rising-head}
 
 -- what is stored after an arrival
 arrived : (g : Offices) (me i : ℕ) (p : Proposal) (l : List Item) → receive g me i p l .stored me i ≡ keeping p
@@ -80,7 +81,7 @@ module _
         go : Dec (o ≡ i) → g .num me < p .number
         go (yes e) =
             let s : after .stored me o ≡ keeping p = rw e (arrived g me i p l) in
-            let f = all-head (rw (a .oldest) at (inv .core .rounds .tells-above me i (a .at) (a .from) (λ z. a .others (sym z)) own-kind)) in
+            let f = every-head (rw (a .oldest) at (inv .core .rounds .tells-above me i (a .at) (a .from) (λ z. a .others (sym z)) own-kind)) in
             let b : usedFor p me ≡ g .num me = rw (s, other) at u in
             rw (a .same) at (f (rw (a .same) b))
         go (no e) = absurd (others-unused o ho n (rw (arrived-else g me i p l o e) at m) (rw (arrived-else g me i p l o e, other) at u))

@@ -2,30 +2,18 @@
 use mathlib.Core.Path.{_≡_, refl, sym, ap, _∙_}
 use mathlib.Core.Bool.{Bool, true, false, _&&_}
 use mathlib.Core.List.{List, [], _∷_}
-use Prim.Native.Nat.{ℕ, zero, suc, _<_}
+use Prim.Native.Nat.{ℕ, _<_}
 use native.Mathlib.Omega.{arith}
-use native.Mathlib.Decide.{ℕ-discrete}
 use lib.ListN.{length}
 use borrow.Author.Tests.{eqb-false, ne-eqb, not-true}
-use Rattle.laws.specs.Fin.{sum}
-use Rattle.laws.proofs.Fin.{sum-ext, and-l, and-r}
+use Rattle.laws.proofs.Fin.{sum-ext, and-l, and-r, sum-zero}
 use Rattle.laws.specs.Upd.{ifb}
 use Rattle.seats.specs.Seats.{serves}
 use Rattle.runs.specs.World.{Item, without}
-use Rattle.runs.proofs.Grid.{upd2-cases}
+use Rattle.laws.proofs.Grid.{upd2-cases}
 use Rattle.runs.proofs.Arrays.{Offices, receive, relink}
 use Rattle.settling.specs.Statement.{between, onWay, OfA}
 use Rattle.settling.proofs.Invariants.{Inv, HappensFairly, fair-idle, fair-loss, fair-leave, fair-report, fair-store, fair-answer}
-
--- a sum is 0 only where each term is
-sum-zero : (n : ℕ) (f : ℕ → ℕ) → sum n f ≡ 0 → (k : ℕ) → k < n → f k ≡ 0
-unfolding sum
-sum-zero zero f e k lt = absurd (omega arith)
-sum-zero (suc n) f e k lt = go (ℕ-discrete k n) (sum-zero n f (omega arith) k)
-  where
-    go : Dec (k ≡ n) → (k < n → f k ≡ 0) → f k ≡ 0
-    go (yes q) ih = let a : f k ≡ f n = ap f q in omega arith
-    go (no q) ih = ih (omega arith)
 
 two-of-A : (A i j : ℕ) → OfA A i → OfA A j → (i ≡ j → ⊥) → between A i j ≡ true
 two-of-A A i j a b n = rw (a .1, b .1, ne-eqb i j n)

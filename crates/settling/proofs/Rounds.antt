@@ -6,16 +6,18 @@ use mathlib.Core.List.{List}
 use Prim.Native.Nat.{ℕ, _+_, _≤_, _<_}
 use native.Mathlib.Omega.{arith}
 use lib.Dec.{eqb}
+use Rattle.laws.specs.Lists.{Every, none, more}
+use Rattle.laws.proofs.Lists.{every-append, every-map, every-tail}
 use Rattle.laws.specs.Upd.{ifb}
 use Rattle.laws.proofs.Upd.{upd-same, upd-other}
 use Rattle.laws.proofs.Fin.{and-l, if-cases}
 use Rattle.seats.specs.Seats.{serves}
 use Rattle.records.specs.declared.Proposal.{Proposal}
 use Rattle.rules.specs.State.{Mode, None, Fast, Slow, slow, kindOf, keeping, usedFor, numberIn}
-use Rattle.runs.specs.World.{Item, All, none, more, without}
-use Rattle.runs.proofs.Grid.{split, row-same, row-other}
+use Rattle.runs.specs.World.{Item, without}
+use Rattle.laws.proofs.Grid.{split, row-same, row-other}
 use Rattle.runs.proofs.Arrays.{Offices, mailTo, renet, propose, receive, conclude, relink, Arrives}
-use Rattle.runs.proofs.Links.{all-map, all-append, all-tail, all-without, rising-le, rising-last}
+use Rattle.runs.proofs.Links.{every-without, rising-le, rising-last}
 use Rattle.settling.specs.Statement.{OfA}
 use Rattle.settling.proofs.Invariants.{Done, NoLast, Proposing, Concluding, Place, on-its-way, is-stored, counted, Rounds, Core}
 use Rattle.settling.proofs.LastProposal.{later}
@@ -26,8 +28,8 @@ is-slow Fast e = cc
 is-slow Slow e = refl
 
 all-mail : {P : Item → Type 0} (t : ℕ) (p : Proposal) (j : ℕ)
-    → (serves (p .members .bits) j ≡ true → P (record { proposal = p; sent = t })) → All P (mailTo t p j)
-all-mail {P} t p j f = if-cases (All P) (serves (p .members .bits) j && not (eqb j (p .sender))) _ _ (λ b. more (f (and-l (serves (p .members .bits) j) _ b)) none) (λ b. none)
+    → (serves (p .members .bits) j ≡ true → P (record { proposal = p; sent = t })) → Every P (mailTo t p j)
+all-mail {P} t p j f = if-cases (Every P) (serves (p .members .bits) j && not (eqb j (p .sender))) _ _ (λ b. more (f (and-l (serves (p .members .bits) j) _ b)) none) (λ b. none)
 
 module _ (A : ℕ) (last : ℕ → ℕ) where
   pub rounds-later : {t : ℕ} {g : Offices} → NoLast A last t → Rounds A last t g → Rounds A last (t + 1) g
@@ -75,10 +77,10 @@ module _ (A : ℕ) (last : ℕ → ℕ) where
 
     -- nobody has been told of it
     untold : (j : ℕ) → OfA A j → (me ≡ j → ⊥)
-        → All (λ x. usedFor (x .proposal) me ≡ p .number → p .number < x .proposal .number) (g .link j me)
+        → Every (λ x. usedFor (x .proposal) me ≡ p .number → p .number < x .proposal .number) (g .link j me)
     untold j dj n =
         let c = k .makes .above in
-        all-map (λ x l e. absurd (omega arith)) (h .numbers .told j me dj (k .at-office) (λ e. n (sym e)))
+        every-map (λ x l e. absurd (omega arith)) (h .numbers .told j me dj (k .at-office) (λ e. n (sym e)))
 
     -- where it tells of a slow proposal, it is above that
     tells : (i : ℕ) → Done A last s i → (i ≡ me → ⊥) → g .made i .kind ≡ slow → serves (p .members .bits) i ≡ true
@@ -120,7 +122,7 @@ module _ (A : ℕ) (last : ℕ → ℕ) where
               split me
               (split me (λ di dj n s. absurd (n refl)) (λ j nj. simp (upd-same, row-other) (λ di dj n s. untold j dj n)))
               (λ i ni. split me
-              (simp (row-same, upd-other) (λ di dj n s. all-append (h .rounds .tells-above i me (old i ni di) dj n s) (all-mail t p i (tells i (old i ni di) n s))))
+              (simp (row-same, upd-other) (λ di dj n s. every-append (h .rounds .tells-above i me (old i ni di) dj n s) (all-mail t p i (tells i (old i ni di) n s))))
               (λ j nj. simp (row-other, upd-other) (λ d. h .rounds .tells-above i j (old i ni d))));
         }
 
@@ -205,7 +207,7 @@ module _ (A : ℕ) (last : ℕ → ℕ) where
         }
 
   -- items are taken off the link from j to i
-  module _ (t : ℕ) (g : Offices) (j i : ℕ) (l : List Item) (h : Core A last t g) (f : OfA A j → (P : Item → Type 0) → All P (g .link j i) → All P l) where
+  module _ (t : ℕ) (g : Offices) (j i : ℕ) (l : List Item) (h : Core A last t g) (f : OfA A j → (P : Item → Type 0) → Every P (g .link j i) → Every P l) where
     fewer-rounds : Rounds A last t (relink g j i l)
     unfolding relink
     fewer-rounds =
@@ -225,13 +227,13 @@ module _ (A : ℕ) (last : ℕ → ℕ) where
         }
 
   pub relink-rounds : (t : ℕ) (g : Offices) (i j place : ℕ) → Core A last t g → Rounds A last t (relink g i j (without place (g .link i j)))
-  relink-rounds t g i j place h = fewer-rounds t g i j _ h (λ o P a. all-without place _ a)
+  relink-rounds t g i j place h = fewer-rounds t g i j _ h (λ o P a. every-without place _ a)
 
   pub receive-rounds : (t : ℕ) (g : Offices) (me o : ℕ) (p : Proposal) (l : List Item) → Core A last t g → Arrives (serves A) g me o p l
       → Rounds A last t (receive g me o p l)
   unfolding receive relink
   receive-rounds t g me o p l h k =
-      let r = fewer-rounds t g o me l h (λ f P a. all-tail (rw (k .oldest f .1) at a)) in
+      let r = fewer-rounds t g o me l h (λ f P a. every-tail (rw (k .oldest f .1) at a)) in
       record {
         own-stored =
             split me

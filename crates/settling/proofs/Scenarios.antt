@@ -1,69 +1,63 @@
 -- A scenario that fails no test meets the hypotheses of the settling rule.
 use mathlib.Core.Path.{_≡_, refl, ap, _∙_}
-use mathlib.Core.Bool.{Bool, true, false, _&&_, _||_, not}
+use mathlib.Core.Bool.{Bool, true, false, _&&_, _||_, not, false≢true}
 use mathlib.Core.List.{List, [], _∷_}
 use Prim.Native.Nat.{ℕ, zero, suc, _+_, _^_, _<_}
 use native.Mathlib.Omega.{arith}
 use lib.ListN.{length, getD}
 use lib.Dec.{eqb, ltb}
 use borrow.Author.Tests.{ltb-true, eqb-true, eqb-false, eq-eqb, not-true}
-use Rattle.laws.proofs.Fin.{allb-out}
+use Rattle.laws.specs.Lists.{Every, none, more, runs}
+use Rattle.laws.proofs.Fin.{allb-out, and-iff}
 use Rattle.laws.specs.Upd.{ifb}
 use Rattle.seats.specs.Seats.{serves}
 use Rattle.records.specs.declared.Report.{Report}
 use Rattle.rules.specs.Rules.{fresh}
 use Rattle.rules.specs.Refusals.{Result, wellFormed}
-use Rattle.runs.specs.World.{netBy, Item, World, WorldEvent, report, delivery, loss, next, run, at, Nth, Gives, to-report, to-proposal, Among, All, none, more}
+use Rattle.runs.specs.World.{netBy, Item, World, WorldEvent, report, delivery, loss, next, at, Nth, Gives, to-report, to-proposal, Among}
 use Rattle.settling.specs.Statement.{OfA, Assumed, AllReported}
 use Rattle.settling.specs.Scenarios.{Scenario, NotFresh, Posted, stateIn, linkIn, opening, everywhere, amongb, answersNot, olderAt, losesOld, reportsTo, noneTo, lastTo}
 use Rattle.settling.specs.Scenarios.{allFresh, noMail, passes, ofEach, Hypothesis, some-seat, holds, hypotheses, failing, fails, reportedLast}
 
-both : (a b : Bool) → a && b ≡ true → (a ≡ true) × (b ≡ true)
-both true b e = (refl, e)
-both false b e = let z : false ≡ true = e in (cc, cc)
-
-or-r : (a b : Bool) → a ≡ true → not a || b ≡ true → b ≡ true
-or-r true b t e = e
-or-r false b t e = let z : false ≡ true = t in cc
-
-not-both : false ≡ true → ⊥
-not-both e = let z : _≡_ {A = ℕ} 0 1 = cc in omega arith
+not-or : (a b : Bool) → a ≡ true → not a || b ≡ true → b ≡ true
+not-or true b t e = e
+not-or false b t e = let z : false ≡ true = t in cc
 
 differ : (a b : ℕ) → not (eqb a b) ≡ true → a ≡ b → ⊥
 differ a b e = eqb-false a b (not-true (eqb a b) e)
 
 everywhere-out : (t : World → WorldEvent → Bool) (w : World) (es : List WorldEvent) → everywhere t w es ≡ true
     → (n : ℕ) (e : WorldEvent) → Nth es n e → t (at w es n) e ≡ true
-unfolding everywhere run
+unfolding everywhere runs
 everywhere-out t w [] h n e x = absurd (let q = x .0 in omega arith)
-everywhere-out t w (a ∷ es) h zero e x = rw (← x .1) (both (t w a) (everywhere t (next w a) es) h .0)
+everywhere-out t w (a ∷ es) h zero e x = rw (← x .1) (and-iff (t w a) (everywhere t (next w a) es) .0 h .0)
 everywhere-out t w (a ∷ es) h (suc n) e x =
     let q = x .0 in
-    everywhere-out t (next w a) es (both (t w a) (everywhere t (next w a) es) h .1) n e (omega arith, x .1)
+    everywhere-out t (next w a) es (and-iff (t w a) (everywhere t (next w a) es) .0 h .1) n e (omega arith, x .1)
 
 of-each : (x : ℕ) (t : ℕ → Bool) → ofEach x t ≡ true → (i : ℕ) → i < 16 → serves x i ≡ true → t i ≡ true
-of-each x t h i lt s = or-r (serves x i) (t i) s (allb-out 16 (λ i. not (serves x i) || t i) h i lt)
+of-each x t h i lt s = not-or (serves x i) (t i) s (allb-out 16 (λ i. not (serves x i) || t i) h i lt)
 
 two-offices : (i j : ℕ) → ltb i 16 && (ltb j 16 && not (eqb i j)) ≡ true → (i < 16) × (j < 16) × (i ≡ j → ⊥)
 two-offices i j h =
-    let a = both (ltb i 16) (ltb j 16 && not (eqb i j)) h in
-    let b = both (ltb j 16) (not (eqb i j)) (a .1) in
+    let a = and-iff (ltb i 16) (ltb j 16 && not (eqb i j)) .0 h in
+    let b = and-iff (ltb j 16) (not (eqb i j)) .0 (a .1) in
     (ltb-true i 16 (a .0), ltb-true j 16 (b .0), differ i j (b .1))
 
 is-among : (w : World) (e : WorldEvent) → amongb w e ≡ true → Among e
 is-among w (report o r room) h =
     let x = r .joining .bits in
     let y = r .leaving .bits in
-    let a = both (ltb o 16) (ltb x (2 ^ 64) && ltb y (2 ^ 64)) h in
-    let b = both (ltb x (2 ^ 64)) (ltb y (2 ^ 64)) (a .1) in
+    let a = and-iff (ltb o 16) (ltb x (2 ^ 64) && ltb y (2 ^ 64)) .0 h in
+    let b = and-iff (ltb x (2 ^ 64)) (ltb y (2 ^ 64)) .0 (a .1) in
     (ltb-true o 16 (a .0), ltb-true x (2 ^ 64) (b .0), ltb-true y (2 ^ 64) (b .1))
 is-among w (delivery i j room) h = two-offices i j h
 is-among w (loss i j place) h = two-offices i j h
 
 never : (x c : ℕ) (w : World) (e : WorldEvent) → answersNot x c w e ≡ true
     → (i : ℕ) (r : Result) → serves x i ≡ true → Gives w e i r → r .refusal ≡ c → ⊥
-never x c w e h i r s (to-report o q room) = differ _ c (or-r (serves x o) _ s h)
-never x c w e h i r s (to-proposal a o room y l q) = differ _ c (rw q at (or-r (serves x o) _ s h))
+never x c w e h i r s (to-report o q room) = differ _ c (not-or (serves x o) _ s h)
+never x c w e h i r s (to-proposal a o room y l q) = differ _ c (rw q at (not-or (serves x o) _ s h))
 
 older : (t n : ℕ) (l : List Item) → olderAt t n l ≡ true → (y : Item) → n < length l → getD l n y ≡ y → y .sent < t
 older t n [] h y lt e = absurd (omega arith)
@@ -77,24 +71,24 @@ ReportAt es n i = (r : Report) × (room : ℕ) × Nth es n (report i r room)
 none-to : (i : ℕ) (es : List WorldEvent) → noneTo i es ≡ true → (n : ℕ) → ReportAt es n i → ⊥
 none-to i [] h n x = let q = x .2 .0 in omega arith
 none-to i (e ∷ es) h zero x =
-    let a = both (not (reportsTo i e)) (noneTo i es) h in
+    let a = and-iff (not (reportsTo i e)) (noneTo i es) .0 h in
     let b : reportsTo i e ≡ true = ap (reportsTo i) (x .2 .1) ∙ eq-eqb i i refl in
     let c = not-true (reportsTo i e) (a .0) in
     let z : _≡_ {A = ℕ} 0 1 = cc in
     omega arith
 none-to i (e ∷ es) h (suc n) x =
-    let a = both (not (reportsTo i e)) (noneTo i es) h in
+    let a = and-iff (not (reportsTo i e)) (noneTo i es) .0 h in
     let q = x .2 .0 in
     none-to i es (a .1) n (x .0, x .1, (omega arith, x .2 .1))
 
 is-report : (i : ℕ) (e : WorldEvent) → reportsTo i e ≡ true → (r : Report) × (room : ℕ) × (e ≡ report i r room)
 is-report i (report o r room) h = (r, room, rw (eqb-true o i h))
-is-report i (delivery a b room) h = absurd (not-both h)
-is-report i (loss a b place) h = absurd (not-both h)
+is-report i (delivery a b room) h = absurd (false≢true h)
+is-report i (loss a b place) h = absurd (false≢true h)
 
 last-to : (i : ℕ) (es : List WorldEvent) → not (noneTo i es) ≡ true
     → ReportAt es (lastTo es i) i × ((m : ℕ) → lastTo es i < m → ReportAt es m i → ⊥)
-last-to i [] h = absurd (not-both h)
+last-to i [] h = absurd (false≢true h)
 last-to i (e ∷ es) h = go (noneTo i es) refl (last-to i es)
   where
     Last : ℕ → Type 0
@@ -132,26 +126,26 @@ module _ (x i : ℕ) (s : serves x i ≡ true) where
     where
       go : (t : Bool) → eqb a i ≡ t → t ≡ false
       go false e = refl
-      go true e = let z = eqb-true a i e in let b = not-true (serves x a) h in let c : serves x i ≡ false = rw (← z) b in absurd (not-both (cc))
+      go true e = let z = eqb-true a i e in let b = not-true (serves x a) h in let c : serves x i ≡ false = rw (← z) b in absurd (false≢true (cc))
 
   fresh-at : (bs : List NotFresh) → allFresh x bs ≡ true → stateIn bs i ≡ fresh i
   fresh-at [] h = refl
   fresh-at (b ∷ bs) h =
-      let a = both (not (serves x (b .office))) (allFresh x bs) h in
+      let a = and-iff (not (serves x (b .office))) (allFresh x bs) .0 h in
       rw (other-office (b .office) (a .0)) (fresh-at bs (a .1))
 
   no-mail-from : (ys : List Posted) (j : ℕ) → noMail x ys ≡ true → linkIn ys i j ≡ []
   no-mail-from [] j h = refl
   no-mail-from (y ∷ ys) j h =
-      let a = both (not (serves x (y .proposal .sender))) (noMail x ys) h in
+      let a = and-iff (not (serves x (y .proposal .sender))) (noMail x ys) .0 h in
       rw (other-office (y .proposal .sender) (a .0)) (no-mail-from ys j (a .1))
 
-mail-from : (o j : ℕ) (ys : List Posted) → All (λ x. x .proposal .sender ≡ o) (linkIn ys o j)
+mail-from : (o j : ℕ) (ys : List Posted) → Every (λ x. x .proposal .sender ≡ o) (linkIn ys o j)
 mail-from o j [] = none
 mail-from o j (y ∷ ys) = go (eqb (y .proposal .sender) o) (eqb (y .to) j) refl (mail-from o j ys)
   where
     Named : List Item → Type 0
-    Named = All (λ x. x .proposal .sender ≡ o)
+    Named = Every (λ x. x .proposal .sender ≡ o)
 
     go : (s t : Bool) → eqb (y .proposal .sender) o ≡ s → Named (linkIn ys o j)
         → Named (ifb (s && t) (record { proposal = y .proposal; sent = 0 } ∷ linkIn ys o j) (linkIn ys o j))
@@ -194,18 +188,18 @@ module _ (p : Scenario) (e : fails p ≡ []) where
       go : (t : Bool) → serves A o ≡ t → t || passes o (stateIn (p .begun) o) ≡ true
           → (stateIn (p .begun) o .own ≡ o) × (wellFormed (stateIn (p .begun) o) ≡ true)
       go true q u = absurd (h (lt, q))
-      go false q u = let b = both (eqb (stateIn (p .begun) o .own) o) _ u in (eqb-true _ o (b .0), b .1)
+      go false q u = let b = and-iff (eqb (stateIn (p .begun) o .own) o) _ .0 u in (eqb-true _ o (b .0), b .1)
 
   kept : (n i j place : ℕ) → Of i → Of j → Nth es n (loss i j place) → olderAt (lastTo es i) place (at w es n .link i j) ≡ true
   unfolding holds
   kept n i j place a b x =
       let t = everywhere-out (losesOld A (lastTo es)) w es (test 10 refl) n (loss i j place) x in
-      or-r (serves A j) _ (b .1) (or-r (serves A i) _ (a .1) t)
+      not-or (serves A j) _ (b .1) (not-or (serves A i) _ (a .1) t)
 
   pub meets-all : Assumed A (stateIn (p .begun)) (linkIn (p .posted)) es (lastTo es)
   unfolding holds
   meets-all =
-      let s = both (ltb 0 A) (ltb A (2 ^ 64)) (test 0 refl) in
+      let s = and-iff (ltb 0 A) (ltb A (2 ^ 64)) .0 (test 0 refl) in
       record {
         some-seat = (ltb-true 0 A (s .0), ltb-true A (2 ^ 64) (s .1));
         starts-fresh = λ i o. fresh-at A i (o .1) (p .begun) (test 1 refl);
@@ -224,8 +218,8 @@ pub reported : (p : Scenario) (i : ℕ) → reportedLast p i ≡ true
     → AllReported (p .set) (stateIn (p .begun)) (linkIn (p .posted)) (p .events) (lastTo (p .events)) (lastTo (p .events) i + 1)
 unfolding reportedLast
 reported p i h =
-    let a = both (ltb i 16) _ h in
-    let b = both (serves (p .set) i) _ (a .1) in
+    let a = and-iff (ltb i 16) _ .0 h in
+    let b = and-iff (serves (p .set) i) _ .0 (a .1) in
     let t : ℕ → Bool = λ j. ltb (lastTo (p .events) j) (lastTo (p .events) i + 1) in
     record {
       after = λ j o. ltb-true _ _ (of-each (p .set) t (b .1) j (o .0) (o .1));

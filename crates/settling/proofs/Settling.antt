@@ -8,6 +8,8 @@ use lib.ListN.{length, drop}
 use lib.Seq.{drop-length}
 use lib.Dec.{ltb}
 use borrow.Author.Tests.{ltb-true, ltb-false}
+use Rattle.laws.specs.Lists.{Every}
+use Rattle.laws.proofs.Lists.{every-head}
 use Rattle.seats.specs.Seats.{serves}
 use Rattle.records.specs.declared.Report.{Report}
 use Rattle.records.specs.declared.Proposal.{Proposal}
@@ -15,10 +17,9 @@ use Rattle.records.specs.declared.View.{View}
 use Rattle.rules.specs.State.{State}
 use Rattle.rules.specs.Refusals.{Result}
 use Rattle.rules.proofs.Steps.{Passes}
-use Rattle.runs.specs.World.{Item, World, atFirst, WorldEvent, report, delivery, All, at, Nth, Gives, to-report, to-proposal}
+use Rattle.runs.specs.World.{Item, World, atFirst, WorldEvent, report, delivery, at, Nth, Gives, to-report, to-proposal}
 use Rattle.runs.specs.Begins.{Begins}
 use Rattle.runs.proofs.Arrays.{Offices, Numbers, Happens, viewWith}
-use Rattle.runs.proofs.Links.{all-head}
 use Rattle.runs.proofs.Accepting.{unheard}
 use Rattle.runs.proofs.WorldArrays.{SeenAll, below-sixteen}
 use Rattle.runs.proofs.Start.{atStart, start-numbers}
@@ -28,7 +29,7 @@ use Rattle.settling.specs.Statement.{onWay, countOf, deliveryOne, delive
 use Rattle.settling.proofs.Invariants.{Done, Inv, HappensFairly}
 use Rattle.settling.proofs.AfterTests.{inv-acts}
 use Rattle.settling.proofs.Quiet.{quiet-view}
-use Rattle.settling.proofs.Bound.{Goes, at-first, acted, delivered}
+use Rattle.settling.proofs.Bound.{Goes, at-first, acted, deliveries-bound}
 use Rattle.settling.proofs.Fair.{Fair, fair-acts}
 use Rattle.runs.proofs.NetView.{net-kept, net-at-end}
 use Rattle.settling.proofs.OnWay.{Empty, none-on-way, same-way, quiet-acts}
@@ -190,15 +191,15 @@ module _ (A : ℕ) (states : ℕ → State) (links : ℕ → ℕ → List Item) 
   bounded =
       let s = any-time A states links es last known T T-in in
       let c : w-at T .clock ≡ T = clock-is A states links es last known T T-in in
-      let early : (i j : ℕ) → OfA A i → OfA A j → (i ≡ j → ⊥) → All (λ x. x .sent < T) (s .0 .link i j)
-      = λ i j a b n. subst (λ (t : ℕ). All (λ x. x .sent < t) (s .0 .link i j)) c (rw (s .1 .links i j (a, b .0, n)) at (s .1 .stamped i j (a, b .0, n))) in
+      let early : (i j : ℕ) → OfA A i → OfA A j → (i ≡ j → ⊥) → Every (λ x. x .sent < T) (s .0 .link i j)
+      = λ i j a b n. subst (λ (t : ℕ). Every (λ x. x .sent < t) (s .0 .link i j)) c (rw (s .1 .links i j (a, b .0, n)) at (s .1 .stamped i j (a, b .0, n))) in
       let same : P ≡ onWay A (s .0 .link) = same-way A (w-at T .link) (s .0 .link) (λ i j a b n. s .1 .links i j (a, b .0, n)) in
       let first : Goes A last T P (after .after) 0 (s .0)
       = subst (λ (x : ℕ). Goes A last T x (after .after) 0 (s .0)) (sym same) (at-first A last T (after .after) (s .0) early) in
       let r = known-along A states links es last known Counted count-one T (length es) T-in (omega arith)
       (s .0, s .1, s .2, (s .3 .0, (omega arith, 0, first, omega arith))) in
       let z : deliveries A (w-at (length es)) (drop (length es) es) ≡ 0 = rw (drop-length es) in
-      let b = delivered A last T P (after .after) (r .3 .1 .2) in
+      let b = deliveries-bound A last T P (after .after) (r .3 .1 .2) in
       let q = r .3 .1 .3 in
       omega arith
 
@@ -237,7 +238,7 @@ module _ (A : ℕ) (states : ℕ → State) (links : ℕ → ℕ → List Item) 
 
       not-of-A : (r : Proposal) → Passes (w-at n .state o) r → r .sender ≡ x .proposal .sender → r .members .bits ≡ w-at n .state o .net .bits → ⊥
       not-of-A r pass s e =
-          let sender : r .sender ≡ i = s ∙ all-head (rw front at (q .1 .named i o (m .0) (m .1))) in
+          let sender : r .sender ≡ i = s ∙ every-head (rw front at (q .1 .named i o (m .0) (m .1))) in
           let net : w-at n .state o .net .bits ≡ A
           = q .1 .sim o p (below-sixteen (serves A) (p .0)) .net ∙ q .3 .0 .core .book .net-A o (p, all-done n h o p) in
           out (m .0, ap (λ (y : ℕ). serves y i) (sym (e ∙ net)) ∙ ap (serves (r .members .bits)) (sym sender) ∙ pass .seat)

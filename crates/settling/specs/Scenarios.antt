@@ -10,6 +10,7 @@ use Rattle.laws.specs.Bit.{bit}
 use Rattle.laws.specs.Big.{bytesAll}
 use Rattle.laws.specs.Fin.{allb, anyb, largest, sum}
 use Rattle.laws.specs.Tab.{tab}
+use Rattle.laws.specs.Lists.{runs}
 use Rattle.laws.specs.Upd.{ifb, upd}
 use Rattle.seats.specs.Seats.{has, serves, unionOf, withoutOf}
 use Rattle.records.specs.Layout.{encodeReport, decodeReport, encodeProposal, decodeProposal, markOf, formFor, formOf, checkFor, checkOf}
@@ -21,7 +22,7 @@ use Rattle.rules.specs.Rules.{proposesSlow, slowTest, agreesKind, isNone, agree
 use Rattle.rules.specs.Rules.{proposalRule}
 use Rattle.rules.specs.Refusals.{slotWithin, wellFormed, unreadable, eventOf, wrongSender, wrongKind, wrongNumber, withoutSeat, strayUsed}
 use Rattle.rules.specs.Refusals.{notAbove, usedAhead, proposalChecks, accepting, actOf, stepOf}
-use Rattle.runs.specs.World.{netBy, Item, SentView, viewsIn, World, atFirst, WorldEvent, report, delivery, loss, answered, withLink, idle, onReport, onProposal, next, run, at}
+use Rattle.runs.specs.World.{netBy, Item, SentView, viewsIn, World, atFirst, WorldEvent, report, delivery, loss, answered, withLink, idle, reportAnswer, proposalAnswer, next, run, at}
 use Rattle.settling.specs.Statement.{onWay, countOf, deliveries}
 
 -- an office that does not start fresh, and a proposal that is on the link from its sender at first
@@ -64,10 +65,10 @@ amongb w (loss i j place) = ltb i 16 && (ltb j 16 && not (eqb i j))
 -- no office of the set x answers c
 abbrev pub handedNot : ℕ → World → ℕ → ℕ → List Item → Bool
 handedNot c w j room [] = true
-handedNot c w j room (y ∷ l) = not (eqb (onProposal w j (y .proposal) room .refusal) c)
+handedNot c w j room (y ∷ l) = not (eqb (proposalAnswer w j (y .proposal) room .refusal) c)
 
 abbrev pub answersNot : ℕ → ℕ → World → WorldEvent → Bool
-answersNot x c w (report o r room) = not (serves x o) || not (eqb (onReport w o r room .refusal) c)
+answersNot x c w (report o r room) = not (serves x o) || not (eqb (reportAnswer w o r room .refusal) c)
 answersNot x c w (delivery i j room) = not (serves x j) || handedNot c w j room (w .link i j)
 answersNot x c w (loss i j place) = true
 
@@ -157,10 +158,10 @@ latest (v ∷ vs) = sent-at (v .sent) (v .view .number) (v .view .members .bits)
 -- what each report and delivery is answered; an event that hands nobody anything has no answer
 abbrev pub handed : World → ℕ → ℕ → List Item → List ℕ
 handed w j room [] = []
-handed w j room (x ∷ l) = onProposal w j (x .proposal) room .refusal ∷ []
+handed w j room (x ∷ l) = proposalAnswer w j (x .proposal) room .refusal ∷ []
 
 abbrev pub answer : World → WorldEvent → List ℕ
-answer w (report o r room) = onReport w o r room .refusal ∷ []
+answer w (report o r room) = reportAnswer w o r room .refusal ∷ []
 answer w (delivery i j room) = handed w j room (w .link i j)
 answer w (loss i j place) = []
 
@@ -193,7 +194,7 @@ unfolding bit bytesAll allb anyb largest sum tab upd has serves unionOf withoutO
     markOf formFor formOf checkFor checkOf andThen fresh netAfter withNet seated opened noticeOf opens nextNumber ownProposal proposed receives proposesFast received
     matching matchingSlow aboveOwn usesOwn slowCalled joinedNumber slowNumber proposesSlow slowTest agreesKind isNone agreed startOf viewOf
     concluded agreementTest tests reportRule proposalRule slotWithin wellFormed unreadable eventOf wrongSender wrongKind wrongNumber withoutSeat
-    strayUsed notAbove usedAhead proposalChecks accepting actOf stepOf atFirst answered withLink idle onReport onProposal next run netBy deliveries
+    strayUsed notAbove usedAhead proposalChecks accepting actOf stepOf atFirst answered withLink idle reportAnswer proposalAnswer next runs netBy deliveries
     everywhere holds fails reportedLast answersTo pointOf
 summary p =
     let t = pointOf p in

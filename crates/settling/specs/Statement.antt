@@ -6,6 +6,7 @@ use mathlib.Core.List.{List, [], _∷_}
 use Prim.Native.Nat.{ℕ, _+_, _-_, _*_, _^_, _≤_, _<_}
 use lib.ListN.{length, drop, getD}
 use lib.Dec.{eqb, ltb}
+use Rattle.laws.specs.Lists.{Every}
 use Rattle.laws.specs.Fin.{sum}
 use Rattle.laws.specs.Upd.{ifb}
 use Rattle.seats.specs.Seats.{serves}
@@ -14,7 +15,7 @@ use Rattle.records.specs.declared.View.{View}
 use Rattle.rules.specs.State.{State}
 use Rattle.rules.specs.Rules.{fresh}
 use Rattle.rules.specs.Refusals.{Result, wellFormed}
-use Rattle.runs.specs.World.{Item, SentView, viewsIn, World, atFirst, WorldEvent, report, delivery, loss, next, at, Nth, Gives, netBy, Among, All}
+use Rattle.runs.specs.World.{Item, SentView, viewsIn, World, atFirst, WorldEvent, report, delivery, loss, next, at, Nth, Gives, netBy, Among}
 
 -- i and j are two offices of A
 abbrev pub between : ℕ → ℕ → ℕ → Bool
@@ -64,7 +65,7 @@ module _ (A : ℕ) (states : ℕ → State) (links : ℕ → ℕ → List Item) 
     -- any other office starts in any state with its own office number that passes check 2, its links holding any proposals that
     -- name it as sender
     pub others-pass : (o : ℕ) → o < 16 → (OfA A o → ⊥) → (states o .own ≡ o) × (wellFormed (states o) ≡ true)
-    pub others-mail : (o j : ℕ) → o < 16 → (OfA A o → ⊥) → All (λ x. x .proposal .sender ≡ o) (links o j)
+    pub others-mail : (o j : ℕ) → o < 16 → (OfA A o → ⊥) → Every (λ x. x .proposal .sender ≡ o) (links o j)
     -- the events are of the sixteen offices and their links
     pub among : (n : ℕ) (e : WorldEvent) → Nth es n e → Among e
     -- each office of A has a last report, and A as its net view after it

@@ -1,1 +1,1 @@
-pub mod Looks
+mod Cases

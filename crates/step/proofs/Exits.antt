@@ -1,82 +1,48 @@
 -- The step's result at each of its exits.
 use mathlib.Core.Path.{_≡_, refl, sym, ap, _∙_}
-use mathlib.Core.Bool.{Bool, true, false, _&&_}
+use mathlib.Core.Bool.{Bool, true, false}
 use mathlib.Core.List.{List, []}
-use Prim.Native.Nat.{ℕ, _≤_, _<_}
+use Prim.Native.Nat.{ℕ, _<_}
 use native.Mathlib.Omega.{arith}
-use lib.ListN.{length, getD}
-use lib.Dec.{eqb, ltb, leb}
-use borrow.Author.Tests.{lt-ltb, le-ltb, le-leb, ltb-true, ltb-false, leb-true, ne-eqb, eq-eqb, eqb-true}
-use Rattle.laws.proofs.Fin.{and-in, and-l, and-r, true-false}
-use Rattle.laws.specs.Upd.{ifb}
-use Rattle.records.specs.Layout.{valueOf, reportMark, proposalMark, reportLength, proposalLength, markOf, formFor, formOf, checkFor, checkOf, checkOwn}
+use native.Mathlib.Decide.{decLt}
+use lib.ListN.{getD}
+use borrow.Author.Tests.{ne-eqb}
+use Rattle.records.specs.Layout.{checkOf}
+use Rattle.records.proofs.OwnChecks.{by-report, by-proposal}
 use Rattle.readers.specs.Read.{readReport, readProposal}
-use Rattle.records.specs.declared.Form.{Form}
-use Rattle.records.specs.declared.RecordKind.{RecordKind}
-use Rattle.records.specs.declared.RecordKind.the-variants as kinds
-use Rattle.records.specs.declared.Report.{Report}
-use Rattle.records.specs.declared.Proposal.{Proposal}
 use Rattle.readers.specs.declared.ReportRead.{ReportRead}
 use Rattle.readers.specs.declared.ProposalRead.{ProposalRead}
-use Rattle.rules.specs.State.{State}
-use Rattle.rules.specs.Rules.{fresh}
-use Rattle.rules.specs.Refusals.{fullRoom, madeOf, wellFormed, unreadable, Event, aReport, aProposal, eventOf, refusalOf, ruleOf}
-use Rattle.rules.specs.Refusals.{refused, accepting, actOf, stepOf, allBytes}
-use Rattle.step_answer.specs.declared.Answer.{Answer}
-use Rattle.row.specs.Row.{Row, rowLength, stateOf, wordsOf, isRow, soundRow, word}
-use Rattle.parts.specs.Did.{Did}
-use Rattle.checks.specs.Checks.{unready}
-use Rattle.step.specs.Step.{RowResult, stepRow, Stepped, MadeRow, freshRow}
+use Rattle.readers.proofs.Reading.{report-refusal, report-decoded, proposal-refusal, proposal-decoded}
+use Rattle.rules.specs.Refusals.{fullRoom, wellFormed, Event, aReport, aProposal, eventOf, ruleOf, refused, stepOf}
+use Rattle.rules.proofs.Steps.{Accepts, AcceptsEvent, zero-accepts, step-accepts, refused-keeps}
+use Rattle.rules.proofs.Exits.{exit-2, exit-3, report-read, proposal-read, no-bytes}
+use Rattle.row.specs.Row.{stateOf, isRow, word}
 use Rattle.row.proofs.Low.{is-row, not-sound, sound-words, sound-row, sound-well}
 use Rattle.row.proofs.Words.{row-words}
+use Rattle.parts.specs.Did.{Did}
+use Rattle.checks.specs.Checks.{unready}
+use Rattle.checks.proofs.Readiness.{unready-2, unready-3, unready-0}
+use Rattle.trial.specs.Tried.{refusalFrom}
+use Rattle.trial.proofs.Refusal.{step-refusal}
+use Rattle.step_answer.specs.declared.Answer.{Answer}
+use Rattle.step.specs.Step.{RowResult, inRow, stepRow, Stepped, Ready}
 
--- what the kind of record that bytes start with says of them
-abbrev Said : RecordKind → List ℕ → Type 0
-Said kinds.Report b = markOf b ≡ valueOf reportMark
-Said kinds.Proposal b = markOf b ≡ valueOf proposalMark
-Said kinds.Other b = checkOf b ≡ 4
+-- what a reader told of bytes: their number by checks 4 and 5, and the event where that is 0
+pub record ReadAs (b : List ℕ) (n : ℕ) (e : Event) : Type 0 where
+  pub number : checkOf b ≡ n
+  pub event : n ≡ 0 → eventOf b ≡ e
 
-said : (b : List ℕ) → Said (formOf b .kind) b
-unfolding formOf formFor checkOf checkFor
-said b = go (eqb (markOf b) (valueOf reportMark)) (eqb (markOf b) (valueOf proposalMark)) refl refl
-  where
-    formBy : Bool → Bool → Form
-    formBy s t =
-        ifb s (record { kind = kinds.Report; length = reportLength })
-        (ifb t (record { kind = kinds.Proposal; length = proposalLength }) (record { kind = kinds.Other; length = 0 }))
+pub report-told : (b : List ℕ) (r : ReportRead) → r ≡ readReport b → (r .refusal ≡ 4 → ⊥) → ReadAs b (r .refusal) (aReport (r .report))
+report-told b r e h = rw e (record {
+  number = by-report b (λ f. h (ap (λ (x : ReportRead). x .refusal) e ∙ report-refusal b ∙ f)) ∙ sym (report-refusal b);
+  event = λ z. report-read b (sym (report-refusal b) ∙ z) ∙ ap aReport (sym (report-decoded b z));
+})
 
-    go : (s t : Bool) → eqb (markOf b) (valueOf reportMark) ≡ s → eqb (markOf b) (valueOf proposalMark) ≡ t → Said (formBy s t .kind) b
-    go true t d e = eqb-true _ _ d
-    go false true d e = eqb-true _ _ e
-    go false false d e = rw (d, e)
-
--- a report and a proposal as they are read: the number by checks 4 and 5, and the event
-module _ (b : List ℕ) (k : formOf b .kind ≡ kinds.Report) (r : ReportRead) (e : r ≡ readReport b) where
-  pub report-check : r .refusal ≡ checkOf b
-  unfolding readReport checkOwn checkOf formOf formFor
-  report-check = let m : markOf b ≡ valueOf reportMark = rw k at (said b) in ap (λ (x : ReportRead). x .refusal) e ∙ rw m
-
-  pub report-event : r .refusal ≡ 0 → eventOf b ≡ aReport (r .report)
-  unfolding readReport eventOf
-  report-event z =
-      let m : markOf b ≡ valueOf reportMark = rw k at (said b) in
-      let n : checkOwn reportMark reportLength b ≡ 0 = sym (ap (λ (x : ReportRead). x .refusal) e) ∙ z in
-      rw (m, e, n)
-
-module _ (b : List ℕ) (k : formOf b .kind ≡ kinds.Proposal) (r : ProposalRead) (e : r ≡ readProposal b) where
-  pub proposal-check : r .refusal ≡ checkOf b
-  unfolding readProposal checkOwn checkOf formOf formFor
-  proposal-check = let m : markOf b ≡ valueOf proposalMark = rw k at (said b) in ap (λ (x : ProposalRead). x .refusal) e ∙ rw m
-
-  pub proposal-event : r .refusal ≡ 0 → eventOf b ≡ aProposal (r .proposal)
-  unfolding readProposal eventOf
-  proposal-event z =
-      let m : markOf b ≡ valueOf proposalMark = rw k at (said b) in
-      let n : checkOwn proposalMark proposalLength b ≡ 0 = sym (ap (λ (x : ProposalRead). x .refusal) e) ∙ z in
-      rw (m, e, n)
-
-sound-is-row : (ws : List ℕ) → soundRow ws ≡ true → isRow ws ≡ true
-sound-is-row ws e = is-row ws (sound-row ws e)
+pub proposal-told : (b : List ℕ) (r : ProposalRead) → r ≡ readProposal b → readReport b .refusal ≡ 4 → ReadAs b (r .refusal) (aProposal (r .proposal))
+proposal-told b r e h = rw e (record {
+  number = by-proposal b (sym (report-refusal b) ∙ h) ∙ sym (proposal-refusal b);
+  event = λ z. proposal-read b (sym (proposal-refusal b) ∙ z) ∙ ap aProposal (sym (proposal-decoded b z));
+})
 
 -- the words as they were, nothing written
 abbrev pub kept : ℕ → List ℕ → RowResult
@@ -84,109 +50,56 @@ kept n ws = record { refusal = n; written = []; words = ws }
 
 pub refuse-meets : (q : RowResult) (n : ℕ) (ws o : List ℕ) (a : Answer) → q ≡ kept n ws → a ≡ record { refusal = n; written = 0 }
     → Stepped q o (a .refusal) (a .written) ws o
-unfolding allBytes
-refuse-meets q n ws o a d e = rw d (record {
-  same-refusal = ap (λ (x : Answer). x .refusal) e;
-  same-written = ap (λ (x : Answer). x .written) e;
-  same-words = refl;
-  same-out = refl;
-})
+refuse-meets q n ws o a d e = rw (d, e) (record { same-refusal = refl; same-written = rw no-bytes; same-words = refl; same-out = rw no-bytes })
 
 module _ (ws b : List ℕ) (room : ℕ) where
-  row-refused : isRow ws ≡ true → (n : ℕ) → (n ≡ 0 → ⊥) → stepOf (stateOf ws) b room ≡ refused n (stateOf ws) → stepRow ws b room ≡ kept n ws
+  on-row : isRow ws ≡ true → stepRow ws b room ≡ inRow ws (stepOf (stateOf ws) b room)
   unfolding stepRow
-  row-refused r n h e = rw (r, e, ne-eqb n 0 h)
+  on-row r = rw r
+
+  row-refused : isRow ws ≡ true → (n : ℕ) → (n ≡ 0 → ⊥) → stepOf (stateOf ws) b room ≡ refused n (stateOf ws) → stepRow ws b room ≡ kept n ws
+  row-refused r n h e = on-row r ∙ rw (e, ne-eqb n 0 h)
 
   -- checks 2 and 3
   pub exit-unready : (n : ℕ) → n ≡ unready ws room → (n ≡ 0 → ⊥) → stepRow ws b room ≡ kept n ws
-  unfolding stepRow stepOf unreadable unready
-  exit-unready n e h = rw e (go (isRow ws) (wellFormed (stateOf ws)) (ltb room fullRoom) refl refl refl)
+  unfolding stepRow
+  exit-unready n e h = rw e (go (isRow ws) (wellFormed (stateOf ws)) (decLt room fullRoom) refl refl)
     where
-      go : (r w t : Bool) → isRow ws ≡ r → wellFormed (stateOf ws) ≡ w → ltb room fullRoom ≡ t
-          → stepRow ws b room ≡ kept (ifb (soundRow ws) (ifb (ltb room fullRoom) 3 0) 2) ws
-      go false w t x y z = rw (x, not-sound ws x)
-      go true false t x y z = rw (x, sound-words ws x, y)
-      go true true true x y z = rw (x, sound-words ws x, y, z)
-      go true true false x y z = let m : n ≡ 0 = e ∙ rw (sound-words ws x, y, z) in absurd (h m)
+      go : (r w : Bool) → Dec (room < fullRoom) → isRow ws ≡ r → wellFormed (stateOf ws) ≡ w → stepRow ws b room ≡ kept (unready ws room) ws
+      go false w l x y = rw (x, unready-2 ws room (not-sound ws x))
+      go true false l x y = rw (unready-2 ws room (sound-words ws x ∙ y)) (row-refused x 2 (omega arith) (exit-2 (stateOf ws) b room y))
+      go true true (yes l) x y = rw (unready-3 ws room (sound-words ws x ∙ y) l) (row-refused x 3 (omega arith) (exit-3 (stateOf ws) b room y l))
+      go true true (no l) x y = absurd (h (e ∙ unready-0 ws room (sound-words ws x ∙ y) (omega arith)))
 
-  pub unready-none : unready ws room ≡ 0 → (soundRow ws ≡ true) × (fullRoom ≤ room)
-  unfolding unready
-  unready-none e = go (soundRow ws) (ltb room fullRoom) refl refl
-    where
-      go : (s t : Bool) → soundRow ws ≡ s → ltb room fullRoom ≡ t → (soundRow ws ≡ true) × (fullRoom ≤ room)
-      go true true x y = let m : _≡_ {A = ℕ} 3 0 = rw (x, y) at e in absurd (omega arith)
-      go true false x y = (x, ltb-false room fullRoom y)
-      go false t x y = let m : _≡_ {A = ℕ} 2 0 = rw x at e in absurd (omega arith)
+  -- what was read, and the refusal that was found for it: the step's
+  module _ {low : Bool} (ready : Ready ws low room) {n : ℕ} {e : Event} (told : ReadAs b n e) (m : ℕ) (found : m ≡ refusalFrom n (stateOf ws) e) where
+    row : isRow ws ≡ true
+    row = is-row ws (sound-row ws (ready .sound))
 
-  module _ (sound : soundRow ws ≡ true) (fits : fullRoom ≤ room) where
-    -- checks 4 and 5
-    pub exit-unread : (n : ℕ) → n ≡ checkOf b → (n ≡ 0 → ⊥) → stepRow ws b room ≡ kept n ws
-    unfolding stepOf unreadable
-    exit-unread n e h = row-refused (sound-is-row ws sound) n h
-        (rw (sound-well ws sound, le-ltb room fullRoom fits, ← e, ne-eqb n 0 h, ne-eqb n 0 h))
+    same : m ≡ stepOf (stateOf ws) b room .refusal
+    same = found ∙ sym (rw (← told .number) (step-refusal (stateOf ws) e b room (sound-well ws (ready .sound)) (ready .fits) (λ z. told .event (sym (told .number) ∙ z))))
 
-    pub exit-4 : formOf b .kind ≡ kinds.Other → stepRow ws b room ≡ kept 4 ws
-    exit-4 k = exit-unread 4 (sym (rw k at (said b))) (omega arith)
+    pub exit-refused : (m ≡ 0 → ⊥) → stepRow ws b room ≡ kept m ws
+    exit-refused h =
+        row-refused row m h (refused-keeps (stateOf ws) b room (λ z. h (same ∙ z)) ∙ ap (λ (k : ℕ). refused k (stateOf ws)) (sym same))
 
-    module _ (read : checkOf b ≡ 0) (e : Event) (is : eventOf b ≡ e) where
-      acts : stepOf (stateOf ws) b room ≡ actOf (stateOf ws) e
-      unfolding stepOf unreadable
-      acts = rw (sound-well ws sound, le-ltb room fullRoom fits, read, is)
+    module _ (z : m ≡ 0) where
+      accepts : Accepts (stateOf ws) b room
+      accepts = zero-accepts (stateOf ws) b room (sym same ∙ z)
 
-      -- checks 6 to 12
-      pub exit-checked : (n : ℕ) → n ≡ refusalOf (stateOf ws) e → (n ≡ 0 → ⊥) → stepRow ws b room ≡ kept n ws
-      unfolding actOf
-      exit-checked n d h = row-refused (sound-is-row ws sound) n h (acts ∙ rw (← d, ne-eqb n 0 h))
+      event : eventOf b ≡ e
+      event = told .event (sym (told .number) ∙ accepts .readable)
 
-      module _ (passes : refusalOf (stateOf ws) e ≡ 0) where
-        pub exit-13 : wellFormed (ruleOf (stateOf ws) e .state) ≡ false → stepRow ws b room ≡ kept 13 ws
-        unfolding actOf accepting
-        exit-13 h = row-refused (sound-is-row ws sound) 13 (omega arith) (acts ∙ rw (passes, h))
+      pub accepts-event : AcceptsEvent (stateOf ws) e
+      accepts-event = rw (← event) (accepts .acts)
 
-        -- accepted: the words are those of the state left
-        pub accept-meets : (a : Answer) (n : ℕ) (o ws′ o′ : List ℕ) → wellFormed (ruleOf (stateOf ws) e .state) ≡ true
-            → Did (λ s. ruleOf s e) ws o 0 ws′ o′ n → ((k : ℕ) → getD ws′ k 0 < word) → a ≡ record { refusal = 0; written = n }
-            → Stepped (stepRow ws b room) o (a .refusal) (a .written) ws′ o′
-        unfolding stepRow actOf accepting
-        accept-meets a n o ws′ o′ h d below f = rw (f, sound-is-row ws sound, acts, passes, h) (record {
-          same-refusal = refl;
-          same-written = let p = d .written .place in omega arith;
-          same-words = row-words ws′ (ruleOf (stateOf ws) e .state) (d .row) below (d .is);
-          same-out = d .written .output;
-        })
-
--- making a state, at each exit
-module _ (office : ℕ) (ws : List ℕ) (n : ℕ) (e : n ≡ madeOf office .refusal) where
-  made-1 : (n ≡ 0 → ⊥) → leb office 15 ≡ false
-  unfolding madeOf
-  made-1 h = go (leb office 15) refl
-    where
-      go : (t : Bool) → leb office 15 ≡ t → leb office 15 ≡ false
-      go true d = absurd (h (e ∙ rw d))
-      go false d = d
-
-  made-0 : n ≡ 0 → leb office 15 ≡ true
-  unfolding madeOf
-  made-0 z = go (leb office 15) refl
-    where
-      go : (t : Bool) → leb office 15 ≡ t → leb office 15 ≡ true
-      go true d = d
-      go false d = let m : 1 ≡ n = sym (e ∙ rw d) in absurd (omega arith)
-
-  module _ (other : length ws ≡ rowLength → ⊥) where
-    pub fresh-1-other : (n ≡ 0 → ⊥) → record { refusal = 1; words = ws } ≡ freshRow office ws
-    unfolding freshRow
-    fresh-1-other h = rw (ne-eqb (length ws) rowLength other, made-1 h)
-
-    pub fresh-2 : n ≡ 0 → record { refusal = 2; words = ws } ≡ freshRow office ws
-    unfolding freshRow
-    fresh-2 z = rw (ne-eqb (length ws) rowLength other, made-0 z)
-
-  module _ (long : length ws ≡ rowLength) where
-    pub fresh-1 : (n ≡ 0 → ⊥) → (ws′ : List ℕ) → ws′ ≡ wordsOf (fresh 0) → record { refusal = 1; words = ws′ } ≡ freshRow office ws
-    unfolding freshRow madeOf
-    fresh-1 h ws′ d = rw (d, eq-eqb (length ws) rowLength long, made-1 h)
-
-    pub fresh-0 : n ≡ 0 → (ws′ : List ℕ) → ws′ ≡ wordsOf (fresh office) → record { refusal = 0; words = ws′ } ≡ freshRow office ws
-    unfolding freshRow madeOf
-    fresh-0 z ws′ d = rw (d, eq-eqb (length ws) rowLength long, made-0 z)
+      -- accepted: the words are those of the state left
+      pub accept-meets : (a : Answer) (k : ℕ) (o ws′ o′ : List ℕ) → Did (λ s. ruleOf s e) ws o 0 ws′ o′ k
+          → ((k : ℕ) → getD ws′ k 0 < word) → a ≡ record { refusal = 0; written = k }
+          → Stepped (stepRow ws b room) o (a .refusal) (a .written) ws′ o′
+      accept-meets a k o ws′ o′ d below f = rw (f, on-row row, step-accepts (stateOf ws) b room accepts, event) (record {
+        same-refusal = refl;
+        same-written = let p = d .written .place in omega arith;
+        same-words = row-words ws′ (ruleOf (stateOf ws) e .state) (d .row) below (d .is);
+        same-out = d .written .output;
+      })

@@ -1,3 +1,2 @@
 pub mod Exits
-pub mod Shapes
 pub mod Holds

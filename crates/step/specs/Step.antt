@@ -1,15 +1,14 @@
--- The step on words: what comes of any words, any bytes and any output, and what making a state leaves.
+-- The step on words: what comes of any words, any bytes and any output.
 use mathlib.Core.Path.{_≡_}
 use mathlib.Core.Bool.{Bool, true}
 use mathlib.Core.List.{List, []}
 use Prim.Native.Nat.{ℕ, _≤_}
-use lib.ListN.{length}
-use lib.Dec.{eqb, leb}
+use lib.Dec.{eqb}
 use lib.Seq.{sets}
 use Rattle.laws.specs.Upd.{ifb}
 use Rattle.rules.specs.Rules.{Written}
-use Rattle.rules.specs.Refusals.{fullRoom, Result, madeOf, stepOf, allBytes, size}
-use Rattle.row.specs.Row.{rowLength, stateOf, wordsOf, isRow, soundRow, lowRow}
+use Rattle.rules.specs.Refusals.{fullRoom, Result, stepOf, allBytes, size}
+use Rattle.row.specs.Row.{stateOf, wordsOf, isRow, soundRow, lowRow}
 
 -- the refusal or 0, what was written, the words at the end
 pub record RowResult : Type 0 where
@@ -32,17 +31,6 @@ pub record Stepped (q : RowResult) (o : List ℕ) (refusal written : ℕ) (ws′
   pub same-written : written ≡ size (q .written)
   pub same-words : ws′ ≡ q .words
   pub same-out : o′ ≡ sets o 0 (allBytes (q .written))
-
--- Making a state: 1 comes first and gives the fresh state of office 0; words of another length get 2 (1 where the office is above 15)
--- and stay.
-pub record MadeRow : Type 0 where
-  pub refusal : ℕ
-  pub words : List ℕ
-
-unfoldable pub freshRow : ℕ → List ℕ → MadeRow
-freshRow office ws =
-    ifb (eqb (length ws) rowLength) (record { refusal = madeOf office .refusal; words = wordsOf (madeOf office .state) })
-    (record { refusal = ifb (leb office 15) 2 1; words = ws })
 
 -- what the step knows of the words once checks 2 and 3 are passed
 pub record Ready (ws : List ℕ) (low : Bool) (room : ℕ) : Type 0 where

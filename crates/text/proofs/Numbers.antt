@@ -66,8 +66,8 @@ places-at n (suc k) h l g b =
     record { more = k; is = refl; few = omega arith; below = b; above = λ z. rw e at (g (omega arith)) }
 
 -- 10 to the 18 is the highest that is raised
-pub top-fits : (k : ℕ) → k ≤ 18 → 10 ^ k ≤ 10 ^ 18
-top-fits k h = let z : 0 < 10 = omega arith in pow-le-pow-right z h
+pub power-fits : (k : ℕ) → k ≤ 18 → 10 ^ k ≤ 10 ^ 18
+power-fits k h = let z : 0 < 10 = omega arith in pow-le-pow-right z h
 
 pub power-more : (k : ℕ) → 10 ^ k * 10 ≡ 10 ^ (k + 1)
 power-more k = rw add-one (sym (pow-suc 10 k))

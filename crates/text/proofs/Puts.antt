@@ -1,13 +1,13 @@
 -- Text put behind text, and one more of what a loop puts.
 use mathlib.Core.Path.{_≡_, refl, sym, ap, _∙_}
 use mathlib.Core.List.{List, [], _∷_, _++_}
-use Prim.Native.Nat.{ℕ, suc, _+_, _*_, _/_, _%_, _≤_, _<_}
+use Prim.Native.Nat.{ℕ, suc, _+_, _*_, _/_, _%_, _<_}
 use native.Mathlib.Omega.{arith}
 use native.Mathlib.Numerals.{add-one}
 use native.Mathlib.Nat.{not-suc-le-zero}
 use lib.ListN.{length, take, getD, set, length-append}
-use lib.Seq.{sets, take-suc, length-take-le, set-comm}
-use Rattle.laws.proofs.Big.{sets-append}
+use lib.Seq.{sets, take-suc, length-take-le}
+use Rattle.laws.proofs.Seqs.{sets-append, set-behind}
 use Rattle.text.specs.Text.{glyph, decimal, lastDigits, hexOf, traceOf, numbersOf, lineOf}
 use Rattle.text.specs.Put.{Put, Places}
 use Rattle.text.proofs.Numbers.{digits-length, decimal-digits, decimal-one}
@@ -23,12 +23,6 @@ put-then {o} {p} {q} {at} {m} {n} {u} {v} {a} {b} f g = record {
 -- a byte
 pub put-byte : (o : List ℕ) (at x : ℕ) → Put 1 o at (x ∷ []) (at + 1) (set o at x)
 put-byte o at x = record { place = refl; output = refl; short = omega arith }
-
--- a store behind what is put may come first
-set-behind : (o : List ℕ) (at k x : ℕ) (a : List ℕ) → at + length a ≤ k → set (sets o at a) k x ≡ sets (set o k x) at a
-set-behind o at k x [] h = refl
-set-behind o at k x (y ∷ a) h =
-    set-behind (set o at y) (suc at) k x a (omega arith) ∙ ap (λ (l : List ℕ). sets l (suc at) a) (set-comm o at k y x (λ e. omega arith))
 
 -- one digit more is stored, and one fewer is due
 pub spell-more : (o : List ℕ) (at left n : ℕ)

@@ -1,2 +1,3 @@
 pub mod Lowness
 pub mod Made
+pub mod Refusal

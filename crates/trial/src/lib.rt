@@ -1,4 +1,5 @@
-// Whether check 13 passes an event, inner to the layer of the step: where a number is near L, the event is tried on a copy of the row.
+// Checks 6 to 13 on a record that was read, inner to the layer of the step. For 13, where a number is near L, the event is tried on a copy
+// of the row.
 use checks::ROOM;
 use checks::made_within;
 use records::Proposal;
@@ -7,11 +8,12 @@ use row::LOW;
 ghost use mathlib.Core.Path.{_≡_};
 ghost use mathlib.Core.Bool.{true};
 ghost use Rattle.rules.specs.Rules.{reportRule, proposalRule};
-ghost use Rattle.rules.specs.Refusals.{wellFormed, firstOf, proposalChecks};
+ghost use Rattle.rules.specs.Refusals.{wellFormed, firstOf, proposalChecks, aReport, aProposal};
 ghost use Rattle.row.specs.Row.{stateOf, soundRow, lowRow};
+ghost use Rattle.trial.specs.Tried.{refusalFrom};
 
 // Check 13 on a report: it makes no number above L. Where a number is near L, the report is tried on a copy.
-pub fn report_within(state: &[u32], low: bool, r: Report) -> bool
+fn report_within(state: &[u32], low: bool, r: Report) -> bool
     requires { ⌜ (soundRow (now state) ≡ true) × (low ≡ lowRow (now state)) ⌝ }
     ensures { λ t. ⌜ t ≡ wellFormed (reportRule (stateOf (now (state .entry))) r .state) ⌝ }
 {
@@ -26,7 +28,7 @@ pub fn report_within(state: &[u32], low: bool, r: Report) -> bool
 }
 
 // Check 13 on a proposal that passes 6 to 12.
-pub fn proposal_within(state: &[u32], low: bool, p: Proposal) -> bool
+fn proposal_within(state: &[u32], low: bool, p: Proposal) -> bool
     requires { ⌜ (soundRow (now state) ≡ true) × (low ≡ lowRow (now state)) × (firstOf (proposalChecks (stateOf (now state)) p) ≡ 0) ⌝ }
     ensures { λ t. ⌜ t ≡ wellFormed (proposalRule (stateOf (now (state .entry))) p .state) ⌝ }
 {
@@ -38,4 +40,34 @@ pub fn proposal_within(state: &[u32], low: bool, p: Proposal) -> bool
     row_changes::copy(state, &mut tried);
     membership::act_on_proposal(&mut tried, p, &mut bytes);
     made_within(&tried)
+}
+
+// The refusal of a report whose number by checks 4 and 5 is handed in, 0 where every check passes.
+pub fn report(state: &[u32], low: bool, unread: u8, r: Report) -> u8
+    requires { ⌜ (soundRow (now state) ≡ true) × (low ≡ lowRow (now state)) ⌝ }
+    ensures { λ n. ⌜ n ≡ refusalFrom unread (stateOf (now (state .entry))) (aReport r) ⌝ }
+{
+    if unread != 0 {
+        return unread;
+    }
+    if report_within(state, low, r) { 0 } else { 13 }
+}
+
+// The same of a proposal.
+pub fn proposal(state: &[u32], low: bool, unread: u8, p: Proposal) -> u8
+    requires { ⌜ (soundRow (now state) ≡ true) × (low ≡ lowRow (now state)) ⌝ }
+    ensures { λ n. ⌜ n ≡ refusalFrom unread (stateOf (now (state .entry))) (aProposal p) ⌝ }
+{
+    if unread != 0 {
+        return unread;
+    }
+    let refusal = checks::proposal(state, p);
+    if refusal != 0 {
+        return refusal;
+    }
+    if proposal_within(state, low, p) {
+        0
+    } else {
+        13
+    }
 }

@@ -1,9 +1,9 @@
 -- What each function of a turn shows, over plain values: the text that is due stays due.
-use mathlib.Core.Path.{_≡_, refl, sym, _∙_}
+use mathlib.Core.Path.{_≡_, refl, sym, ap, _∙_}
 use mathlib.Core.Bool.{Bool, true, false}
 use mathlib.Core.Logic.{_⊎_, inl, inr, ⊎-elim}
 use mathlib.Core.List.{List, [], _++_, append-nil, append-assoc}
-use Prim.Native.Nat.{ℕ, _+_, _-_, _≤_, _<_}
+use Prim.Native.Nat.{ℕ, _+_, _-_, _≤_, _<_, _^_}
 use native.Mathlib.Omega.{arith}
 use native.Mathlib.Nat.{pos-of-ne-zero}
 use lib.ListN.{length, take, drop, length-take, drop-of-length-le}
@@ -12,18 +12,19 @@ use lib.Dec.{eqb}
 use borrow.Author.Tests.{eqb-false}
 use Rattle.laws.proofs.Fin.{true-false}
 use Rattle.run_reader.specs.Run.{runCheck}
-use Rattle.rules.specs.Refusals.{stepOf}
 use Rattle.row.specs.Row.{stateOf}
-use Rattle.lines.specs.Lines.{frontOf, behindOf, answerOf, lineFor}
+use Rattle.lines.specs.Lines.{frontOf, behindOf, answerFor, lineFor}
 use Rattle.answer.specs.Held.{Sound}
 use Rattle.buffers.specs.Place.{Within, windowOf, unwrittenOf, waitsOf, roomFor, Sent, Refilled}
 use Rattle.answer.specs.Answered.{Answered}
+use Rattle.places.specs.Places.{sentFrom, Emptied}
+use Rattle.places.proofs.Standing.{sent-few}
 use Rattle.turn.specs.Turn.{Acts, Turns}
 use Rattle.buffers.specs.declared.Place.{Place}
 use Rattle.answer.specs.declared.Acted.{Acted}
 use Rattle.run_reader.proofs.RunLaws.{Front, nothing, other, short, whole, front}
 use Rattle.run_reader.proofs.Growing.{whole-long}
-use Rattle.lines.proofs.Lines.{front-behind, lines-nil, Settled, entire, last, marked, settled-text}
+use Rattle.lines.proofs.Lines.{front-behind, lines-nil, Decided, entire, last, marked, decided-text}
 use Rattle.buffers.proofs.Places.{window-left, front-fits, Waits, waits, ready, waits-cases, room-none, room-nothing, nothing-due}
 
 -- where a whole record stands in front, or the input has ended, nothing is waited for
@@ -95,18 +96,17 @@ module _ (traced : Bool) {ws : List ℕ} (p : Place) (i o : List ℕ) (sound : S
           go (ready (inr e) f) = absurd (omega (arith, e .0))
 
   -- the record in front
-  pub acts-answer : {ws′ o′ b : List ℕ} {r : Acted} → length i ≡ 65536 → waitsOf (p .ended) (windowOf p i) ≡ false → 0 < length (windowOf p i)
-      → b ≡ frontOf (windowOf p i) → Answered traced (stepOf (stateOf ws) b 182) p (length b) o r ws′ o′
-      → Acts traced ws p i o r ws′ i o′
-  acts-answer {ws′} {o′} {b} {r} li t h e a = record {
+  pub acts-answer : {ws′ o′ : List ℕ} {r : Acted} → length i ≡ 65536 → waitsOf (p .ended) (windowOf p i) ≡ false → 0 < length (windowOf p i)
+      → Answered traced ws p (frontOf (windowOf p i)) o r ws′ o′ → Acts traced ws p i o r ws′ i o′
+  acts-answer {ws′} {o′} {r} li t h a = record {
     within = record { unread = omega (arith, a .at, a .end, l); read = omega (arith, a .end, in-place .read); unwritten = a .filled };
     sound = a .sound;
     keeps = record {
       got = [];
-      printed = lineFor traced (p .number + 1) (answerOf (stateOf ws) v);
-      buffer = rw e at (a .line);
-      text = λ f z. settled-text traced (stateOf ws) (p .number) (sound .well) v f h (settled f z)
-          ∙ rw (left, a .more, a .number, a .state, e);
+      printed = lineFor traced (p .number + 1) (answerFor (stateOf ws) v);
+      buffer = a .line;
+      text = λ f z. decided-text traced (stateOf ws) (p .number) (sound .well) v f h (decided f z)
+          ∙ rw (left, a .more, a .number, a .state);
       end = λ z. (a .ended ∙ z, refl);
       number = omega (arith, a .number);
       took = λ y z. (a .number, rw left (sym (front-behind v)));
@@ -118,33 +118,42 @@ module _ (traced : Bool) {ws : List ℕ} (p : Place) (i o : List ℕ) (sound : S
       v : List ℕ
       v = windowOf p i
 
-      l : p .at + length b ≤ p .end
-      l = front-fits p i li in-place e
+      l : p .at + length (frontOf v) ≤ p .end
+      l = front-fits p i li in-place refl
 
       left : windowOf (r .place) i ≡ behindOf v
       left = window-left p (r .place) i (frontOf v) (behindOf v) (in-place .unread) (rw li (in-place .read)) (sym (front-behind v))
-          (rw e at (a .at)) (a .end)
+          (a .at) (a .end)
 
-      settled : (f : List ℕ) → (r .place .ended ≡ true → f ≡ []) → Settled v f
-      settled f z = go (waits-cases (p .ended) v)
+      decided : (f : List ℕ) → (r .place .ended ≡ true → f ≡ []) → Decided v f
+      decided f z = go (waits-cases (p .ended) v)
         where
-          by-front : 2 ≤ length v → (runCheck v ≡ 5 → ⊥) → Front v → Settled v f
+          by-front : 2 ≤ length v → (runCheck v ≡ 5 → ⊥) → Front v → Decided v f
           by-front two n (nothing y d) = absurd (omega arith)
           by-front two n (other y x d) = marked two d
           by-front two n (short y x d) = absurd (n d)
           by-front two n (whole y x d s) = entire d
 
-          go : Waits (p .ended) v → Settled v f
+          go : Waits (p .ended) v → Decided v f
           go (waits n few d g) = absurd (true-false (waitsOf (p .ended) v) d t)
           go (ready (inl d) f) = last (z (a .ended ∙ d))
           go (ready (inr d) f) = by-front (d .0) (d .1) (front v)
 
--- the place after a write of some bytes
-abbrev pub sentFrom : Place → ℕ → Place
-sentFrom p sent = record { ended = p .ended; at = p .at; end = p .end; filled = p .filled - sent; number = p .number }
+-- the place after a write is within the buffers, and its window is the same
+pub sent-within : {p q : Place} {waiting : Bool} (i : List ℕ) → Within p → Emptied p waiting q
+    → Within q × (waitsOf (p .ended) (windowOf p i) ≡ waitsOf (q .ended) (windowOf q i)) × (p .number + 1 < 2 ^ 64 → q .number + 1 < 2 ^ 64)
+unfolding windowOf
+sent-within {p} {q} {waiting} i w h = go (p .filled - q .filled) (h .place)
+  where
+    go : (sent : ℕ) → q ≡ sentFrom p sent
+        → Within q × (waitsOf (p .ended) (windowOf p i) ≡ waitsOf (q .ended) (windowOf q i)) × (p .number + 1 < 2 ^ 64 → q .number + 1 < 2 ^ 64)
+    go sent e = rw e (record { unread = w .unread; read = w .read; unwritten = omega (arith, w .unwritten) }, refl, λ z. z)
 
-module _ (p : Place) (o : List ℕ) (sent : ℕ) (in-place : Within p) (lo : length o ≡ 65536)
-    {waiting : Bool} (given : Sent (p .filled) waiting sent) where
+pub left-few : {p q : Place} {waiting : Bool} → Emptied p waiting q → q .filled ≤ p .filled
+left-few {p} {q} h = let e = ap (λ (x : Place). x .filled) (h .place) in omega arith
+
+module _ (p q : Place) (o : List ℕ) (sent : ℕ) (in-place : Within p) (lo : length o ≡ 65536)
+    {waiting : Bool} (given : Sent (p .filled) waiting sent) (place : q ≡ sentFrom p sent) where
   unsent : drop sent (unwrittenOf p o) ≡ unwrittenOf (sentFrom p sent) o
   unfolding unwrittenOf
   unsent = go (given .all)
@@ -162,42 +171,39 @@ module _ (p : Place) (o : List ℕ) (sent : ℕ) (in-place : Within p) (lo : len
   unfolding unwrittenOf
   unwritten-length = length-take-le (p .filled) o (rw lo (in-place .unwritten))
 
-  sent-few : sent ≤ p .filled
-  sent-few = ⊎-elim (λ e. omega arith) (λ e. omega arith) (given .all)
-
   pub turns-on : (traced : Bool) {ws : List ℕ} (i : List ℕ) {i′ o′ ws′ : List ℕ} {r : Acted} → waiting ≡ waitsOf (p .ended) (windowOf p i)
-      → true ≡ roomFor (p .filled - sent) waiting → Acts traced ws (sentFrom p sent) i o r ws′ i′ o′
+      → roomFor (q .filled) waiting ≡ true → Acts traced ws q i o r ws′ i′ o′
       → Turns traced ws p i o (record { more = r .more; failed = false; sent = sent; place = r .place }) ws′ i′ o′
   unfolding windowOf unwrittenOf
   turns-on traced i e room a = record {
     within = a .within;
     sound = a .sound;
-    number = a .keeps .number;
-    sent = omega (arith, unwritten-length, sent-few);
+    number = rw place at (a .keeps .number);
+    sent = omega (arith, unwritten-length, sent-few given);
     unasked = λ z. given .unasked (rw e z);
-    keeps = λ z. rw unsent (a .keeps);
+    keeps = λ z. rw unsent (rw place at (a .keeps));
     shown = λ z t. unsent ∙ none t;
     failed = λ z. absurd (true-false false z refl);
   }
     where
       none : waitsOf (p .ended) (take (p .end - p .at) (drop (p .at) i)) ≡ true → take (p .filled - sent) o ≡ []
-      none t = nothing-due o (p .filled - sent) (room-none (p .filled - sent) waiting (sym room) (e ∙ t))
+      none t = nothing-due o (p .filled - sent) (room-none (p .filled - sent) waiting (rw place at room) (e ∙ t))
 
-  pub turns-failed : (traced : Bool) {ws : List ℕ} (i : List ℕ) → waiting ≡ waitsOf (p .ended) (windowOf p i) → Sound ws → (true ≡ roomFor (p .filled - sent) waiting → ⊥)
-      → Turns traced ws p i o (record { more = true; failed = true; sent = sent; place = sentFrom p sent }) ws i o
+  pub turns-failed : (traced : Bool) {ws : List ℕ} (i : List ℕ) → waiting ≡ waitsOf (p .ended) (windowOf p i) → Sound ws → (roomFor (q .filled) waiting ≡ true → ⊥)
+      → Turns traced ws p i o (record { more = true; failed = true; sent = sent; place = q }) ws i o
   turns-failed traced i e sound room = record {
-    within = record { unread = in-place .unread; read = in-place .read; unwritten = omega (arith, in-place .unwritten) };
+    within = rw place (record { unread = in-place .unread; read = in-place .read; unwritten = omega (arith, in-place .unwritten) });
     sound = sound;
-    number = omega arith;
-    sent = omega (arith, unwritten-length, sent-few);
+    number = rw place (omega arith);
+    sent = omega (arith, unwritten-length, sent-few given);
     unasked = λ z. given .unasked (rw e z);
     keeps = λ z. absurd (true-false true refl z);
     shown = λ z. absurd (true-false true refl z);
-    failed = λ z. (none (given .all), omega (arith, unwritten-length, sent-few, some));
+    failed = λ z. (none (given .all), omega (arith, unwritten-length, sent-few given, some));
   }
     where
       some : 0 < p .filled - sent
-      some = pos-of-ne-zero (λ e. room (sym (room-nothing (p .filled - sent) waiting e)))
+      some = pos-of-ne-zero (λ e. room (rw place (room-nothing (p .filled - sent) waiting e)))
 
       none : (sent ≡ p .filled) ⊎ (sent ≡ 0) → sent ≡ 0
       none (inl e) = absurd (let s = some in omega arith)

@@ -2,11 +2,10 @@
 use answer::Acted;
 use answer::answer;
 use buffers::Place;
-use buffers::front;
 use buffers::has_room;
-use buffers::make_room;
 use buffers::refill;
 use buffers::waits;
+use places::emptied;
 ghost use mathlib.Core.Path.{_≡_};
 ghost use mathlib.Core.Bool.{true};
 ghost use Prim.Native.Nat.{_+_, _<_, _^_};
@@ -49,10 +48,9 @@ fn act(
             place: p,
         };
     }
-    answer(state, p, front(input, p.at, p.end), output, traced)
+    answer(state, p, input, output, traced)
 }
 
-// What is unwritten is written before the program waits, and where a line could have no room.
 pub fn turn(
     state: &mut [u32],
     p: Place,
@@ -65,19 +63,13 @@ pub fn turn(
         (now (state .exit)) (now (input .exit)) (now (output .exit)) ⌝ }
 {
     let waiting = waits(p, input);
-    let sent = make_room(output, p.filled, waiting);
-    let q = Place {
-        ended: p.ended,
-        at: p.at,
-        end: p.end,
-        filled: p.filled - sent,
-        number: p.number,
-    };
+    let q = emptied(p, output, waiting);
+    let sent = p.filled - q.filled;
     if has_room(q.filled, waiting) {
-        let t = act(state, q, input, output, waiting, traced);
-        let next = t.place;
+        let acted = act(state, q, input, output, waiting, traced);
+        let next = acted.place;
         Turned {
-            more: t.more,
+            more: acted.more,
             failed: false,
             sent,
             place: next,

@@ -1,4 +1,7 @@
 use mathlib.Core.Path.{_∙_}
+use Prim.Native.Nat.{_<_, _≤_}
+use native.Mathlib.Omega.{arith}
+use lib.ListN.{length}
 use borrow.Author.Tests.{lt-ltb}
 use Rattle.buffers.specs.Place.{windowOf}
 use Rattle.buffers.proofs.Places.{waits-ended, waits-few, waits-short}
@@ -23,11 +26,19 @@ run-check-requires c κs = search needs
 
 returns-2 : tie.Need-returns-2
 unfolding windowOf
-returns-2 c = lt-ltb _ _ (c .if2 .taken) ∙ waits-few _ _ (c .before .before .if1 .left) (c .if2 .taken)
+returns-2 c =
+    let a = c .before .before .before .before .args in
+    let t = c .if2 .taken in
+    let few : length (windowOf (a .p) (a .input .now)) < 2 = omega arith in
+    lt-ltb _ _ t ∙ waits-few _ _ (c .before .before .if1 .left) few
 
 returns-3 : tie.Need-returns-3
 unfolding windowOf
-returns-3 c = waits-short _ _ _ (c .before .before .before .if1 .left) (c .before .if2 .left) (c .run-check .ensures)
+returns-3 c =
+    let a = c .before .before .before .before .before .args in
+    let t = c .before .if2 .left in
+    let enough : 2 ≤ length (windowOf (a .p) (a .input .now)) = omega arith in
+    waits-short _ _ _ (c .before .before .before .if1 .left) enough (c .run-check .ensures)
 
 pub waits-spec : {M : Type 1} → statement M
 waits-spec =

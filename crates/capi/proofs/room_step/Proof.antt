@@ -1,8 +1,7 @@
-use mathlib.Core.Path.{_≡_, _∙_}
 use native.Mathlib.Omega.{arith}
 use lib.ListN.{length}
 use Rattle.step.proofs.Holds.{row-size}
-use Rattle.capi.proofs.Called.{called-is}
+use Rattle.capi.proofs.Called.{call-is}
 use borrow.Author.Needs.{needs}
 use Rattle.capi.proofs.room_step.Statement.{statement}
 use Rattle.capi.proofs.room_step.Tie as tie
@@ -26,7 +25,7 @@ returns : tie.Need-returns
 returns c =
     let a = c .before .before .before .before .before .before .before .before .before .before .before .args in
     let s = c .before .before .before .before .before .step in
-    called-is (a .state .now) (a .«record» .now) (a .out .now) (s .result .refusal) (s .result .written) _ _ (c .answer .result) (s .ensures)
+    call-is (a .state .now) (a .«record» .now) (a .out .now) (s .result .refusal) (s .result .written) _ _ (c .answer .result) (s .ensures)
     (c .answer .ensures)
 
 pub room-step-spec : {M : Type 1} → statement M

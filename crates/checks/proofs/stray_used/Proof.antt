@@ -1,4 +1,4 @@
-use mathlib.Core.Path.{_≡_, refl}
+use mathlib.Core.Path.{_≡_}
 use mathlib.Core.Bool.{_&&_, not}
 use Prim.Native.Nat.{_≤_, _-_}
 use native.Mathlib.Omega.{arith}
@@ -7,7 +7,7 @@ use lib.ListN.{getD}
 use borrow.Author.Needs.{needs}
 use Rattle.laws.specs.Fin.{anyb}
 use Rattle.seats.specs.Seats.{serves}
-use Rattle.checks.proofs.Search.{one-more}
+use Rattle.laws.proofs.Loops.{any-none, any-one}
 use Rattle.checks.proofs.stray_used.Statement.{statement}
 use Rattle.checks.proofs.stray_used.Tie as tie
 
@@ -18,8 +18,7 @@ abbrev μ-loop : tie.MeasureT-loop
 μ-loop members used stray₀ o₀ stray o = 16 - o
 
 loop-holds : tie.Need-loop-holds Inv-loop μ-loop
-unfolding anyb
-loop-holds c = (omega arith, refl)
+loop-holds c = (omega arith, any-none _)
 
 cast-serves : tie.Need-cast-serves Inv-loop μ-loop
 cast-serves c = omega arith
@@ -42,7 +41,7 @@ loop-less c = omega arith
 loop-again : tie.Need-loop-again Inv-loop μ-loop
 loop-again c =
     let l = c .before .before .loop in
-    (omega arith, rw (c .serves .ensures) (one-more (l .o) _ (l .stray) (l .inv .1)))
+    (omega arith, rw (c .serves .ensures) (any-one (l .o) _ (l .stray) (l .inv .1)))
 
 returns : tie.Need-returns Inv-loop μ-loop
 returns c =

@@ -1,18 +1,47 @@
-use Rattle.rules.specs.Refusals.{wrongNumber}
-use borrow.Author.Needs.{needs}
+use mathlib.Core.Path.{_≡_}
+use Prim.Native.Nat.{_≤_, _-_}
+use native.Mathlib.Omega.{arith}
+use lib.Dec.{ltb}
+use lib.ListN.{getD}
+use Rattle.laws.specs.Fin.{anyb}
+use Rattle.rules.specs.Refusals.{limit, wrongNumber}
+use Rattle.laws.proofs.Loops.{any-none, any-one}
 use Rattle.checks.proofs.wrong_number.Statement.{statement}
 use Rattle.checks.proofs.wrong_number.Tie as tie
 
-returns : tie.Need-returns
-unfolding wrongNumber
-returns c = rw (c .if1 .taken)
+abbrev Inv-loop : tie.InvT-loop
+Inv-loop p used above₀ o₀ above o = (o ≤ 16) × (above ≡ anyb o (λ k. ltb limit (getD used k 0)))
 
-used-above-requires : tie.Need-used-above-requires
-used-above-requires c κs = search needs
+abbrev μ-loop : tie.MeasureT-loop
+μ-loop p used above₀ o₀ above o = 16 - o
 
-returns-2 : tie.Need-returns-2
+loop-holds : tie.Need-loop-holds Inv-loop μ-loop
+loop-holds c = (omega arith, any-none _)
+
+mul-above : tie.Need-mul-above Inv-loop μ-loop
+mul-above c = omega arith
+
+array-read-above : tie.Need-array-read-above Inv-loop μ-loop
+array-read-above c = omega arith
+
+add-o : tie.Need-add-o Inv-loop μ-loop
+add-o c = omega arith
+
+loop-less : tie.Need-loop-less Inv-loop μ-loop
+loop-less c = omega arith
+
+loop-again : tie.Need-loop-again Inv-loop μ-loop
+loop-again c =
+    let l = c .before .loop in
+    (omega arith, any-one (l .o) _ (l .above) (l .inv .1))
+
+returns : tie.Need-returns Inv-loop μ-loop
 unfolding wrongNumber
-returns-2 c = rw (c .before .before .if1 .left) (c .used-above .ensures)
+returns c =
+    let l = c .before .before .before .before .before .loop in
+    let e : l .o ≡ 16 = omega arith in
+    rw (l .inv .1, e)
 
 pub wrong-number-spec : {M : Type 1} → statement M
-wrong-number-spec = tie.close (tie.spec returns used-above-requires returns-2)
+wrong-number-spec =
+    tie.close (tie.spec Inv-loop μ-loop loop-holds mul-above array-read-above add-o loop-less loop-again returns)

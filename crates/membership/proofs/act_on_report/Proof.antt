@@ -5,7 +5,8 @@ use lib.ListN.{length}
 use Rattle.rules.specs.Rules.{netAfter, reportRule}
 use Rattle.rules.specs.Refusals.{aReport, limit}
 use Rattle.rules.proofs.Steps.{well-facts}
-use Rattle.row.specs.Row.{stateOf, withNetSet}
+use Rattle.row.specs.Row.{stateOf}
+use Rattle.row.specs.Changes.{withNetSet}
 use Rattle.parts.specs.Parts.{fastRound}
 use Rattle.parts.proofs.Bounding.{well-bounded, net-bounded}
 use Rattle.parts.proofs.Dids.{did-as, did-after, did-quiet}

@@ -6,18 +6,18 @@ use Rattle.laws.specs.Upd.{ifb}
 use Rattle.seats.specs.Seats.{serves}
 use Rattle.rules.specs.State.{usedAt}
 use Rattle.row.specs.Row.{stateOf}
-use Rattle.parts.proofs.Loops.{Filling, filling-none, filling-one, filling-all}
+use Rattle.laws.proofs.Loops.{Filling, filling-none, filling-set, filling-all}
 use Rattle.proposing.proofs.used_within.Statement.{statement}
 use Rattle.proposing.proofs.used_within.Tie as tie
 
 abbrev Inv-loop : tie.InvT-loop
-Inv-loop s net used₀ o₀ used o = (o ≤ 16) × Filling 16 (λ k. ifb (serves (net .bits) k) (usedAt (stateOf s) k) 0) o used
+Inv-loop s net used₀ o₀ used o = (o ≤ 16) × Filling 16 0 (λ k. ifb (serves (net .bits) k) (usedAt (stateOf s) k) 0) o used
 
 abbrev μ-loop : tie.MeasureT-loop
 μ-loop s net used₀ o₀ used o = 16 - o
 
 loop-holds : tie.Need-loop-holds Inv-loop μ-loop
-loop-holds c = (omega arith, filling-none 16 _ _ refl)
+loop-holds c = (omega arith, filling-none 16 0 _ _ refl)
 
 cast-serves : tie.Need-cast-serves Inv-loop μ-loop
 cast-serves c = omega arith
@@ -47,13 +47,13 @@ loop-again : tie.Need-loop-again Inv-loop μ-loop
 loop-again c =
     let l = c .before .before .before .before .loop in (
       omega arith,
-      filling-one 16 _ (l .o) (l .used) (l .inv .1) (omega arith) _ (c .counted .ensures ∙ rw (c .before .before .serves .ensures, c .before .used .ensures)),
+      filling-set 16 0 _ (l .o) (l .used) (l .inv .1) (omega arith) _ (c .counted .ensures ∙ rw (c .before .before .serves .ensures, c .before .used .ensures)),
     )
 
 returns : tie.Need-returns Inv-loop μ-loop
 returns c =
     let l = c .before .loop in
-    filling-all 16 _ (l .o) (l .used) (l .inv .1) (omega arith)
+    filling-all 16 0 _ (l .o) (l .used) (l .inv .1) (omega arith)
 
 pub used-within-spec : {M : Type 1} → statement M
 used-within-spec =

@@ -1,8 +1,8 @@
 use borrow.Author.Tests.{eq-eqb, ne-eqb}
 use Rattle.readers.specs.Read.{readNotice}
 use Rattle.records.proofs.CheckLaws.{own-length}
-use mathlib.Core.Path.{_∙_, sym}
-use Rattle.records.specs.Layout.{noticeMark, noticeLength, decodeNotice}
+use mathlib.Core.Path.{_≡_, _∙_, sym}
+use Rattle.records.specs.Layout.{noticeMark, noticeLength, decodeNotice, checkOwn}
 use borrow.Author.Needs.{needs}
 use Rattle.readers.proofs.read_notice.Statement.{statement}
 use Rattle.readers.proofs.read_notice.Tie as tie
@@ -12,7 +12,10 @@ check-own-requires c κs = search needs
 
 returns : tie.Need-returns
 unfolding readNotice decodeNotice
-returns c = rw (← c .before .check-own .ensures, ne-eqb (c .before .check-own .result) 0 (c .if1 .taken))
+returns c =
+    let n = c .before .check-own .result in
+    let e : n ≡ checkOwn noticeMark noticeLength (c .before .before .before .before .args .bytes .now) = c .before .check-own .ensures in
+    rw (← e, ne-eqb n 0 (c .if1 .taken))
 
 decode-notice-requires : tie.Need-decode-notice-requires
 decode-notice-requires c κs =

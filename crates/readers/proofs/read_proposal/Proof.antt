@@ -2,8 +2,8 @@ use Rattle.laws.specs.Tab.{tab}
 use borrow.Author.Tests.{eq-eqb, ne-eqb}
 use Rattle.readers.specs.Read.{readProposal}
 use Rattle.records.proofs.CheckLaws.{own-length}
-use mathlib.Core.Path.{_∙_, sym}
-use Rattle.records.specs.Layout.{proposalMark, proposalLength, decodeProposal}
+use mathlib.Core.Path.{_≡_, _∙_, sym}
+use Rattle.records.specs.Layout.{proposalMark, proposalLength, decodeProposal, checkOwn}
 use borrow.Author.Needs.{needs}
 use Rattle.readers.proofs.read_proposal.Statement.{statement}
 use Rattle.readers.proofs.read_proposal.Tie as tie
@@ -13,7 +13,10 @@ check-own-requires c κs = search needs
 
 returns : tie.Need-returns
 unfolding readProposal decodeProposal tab
-returns c = rw (← c .before .check-own .ensures, ne-eqb (c .before .check-own .result) 0 (c .if1 .taken))
+returns c =
+    let n = c .before .check-own .result in
+    let e : n ≡ checkOwn proposalMark proposalLength (c .before .before .before .before .args .bytes .now) = c .before .check-own .ensures in
+    rw (← e, ne-eqb n 0 (c .if1 .taken))
 
 decode-proposal-requires : tie.Need-decode-proposal-requires
 decode-proposal-requires c κs =

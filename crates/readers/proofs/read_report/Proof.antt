@@ -1,8 +1,8 @@
 use borrow.Author.Tests.{eq-eqb, ne-eqb}
 use Rattle.readers.specs.Read.{readReport}
 use Rattle.records.proofs.CheckLaws.{own-length}
-use mathlib.Core.Path.{_∙_, sym}
-use Rattle.records.specs.Layout.{reportMark, reportLength, decodeReport}
+use mathlib.Core.Path.{_≡_, _∙_, sym}
+use Rattle.records.specs.Layout.{reportMark, reportLength, decodeReport, checkOwn}
 use borrow.Author.Needs.{needs}
 use Rattle.readers.proofs.read_report.Statement.{statement}
 use Rattle.readers.proofs.read_report.Tie as tie
@@ -12,7 +12,10 @@ check-own-requires c κs = search needs
 
 returns : tie.Need-returns
 unfolding readReport decodeReport
-returns c = rw (← c .before .check-own .ensures, ne-eqb (c .before .check-own .result) 0 (c .if1 .taken))
+returns c =
+    let n = c .before .check-own .result in
+    let e : n ≡ checkOwn reportMark reportLength (c .before .before .before .before .args .bytes .now) = c .before .check-own .ensures in
+    rw (← e, ne-eqb n 0 (c .if1 .taken))
 
 decode-report-requires : tie.Need-decode-report-requires
 decode-report-requires c κs =

@@ -2,8 +2,8 @@ use Rattle.laws.specs.Tab.{tab}
 use borrow.Author.Tests.{eq-eqb, ne-eqb}
 use Rattle.readers.specs.Read.{readView}
 use Rattle.records.proofs.CheckLaws.{own-length}
-use mathlib.Core.Path.{_∙_, sym}
-use Rattle.records.specs.Layout.{viewMark, viewLength, decodeView}
+use mathlib.Core.Path.{_≡_, _∙_, sym}
+use Rattle.records.specs.Layout.{viewMark, viewLength, decodeView, checkOwn}
 use borrow.Author.Needs.{needs}
 use Rattle.readers.proofs.read_view.Statement.{statement}
 use Rattle.readers.proofs.read_view.Tie as tie
@@ -13,7 +13,10 @@ check-own-requires c κs = search needs
 
 returns : tie.Need-returns
 unfolding readView decodeView tab
-returns c = rw (← c .before .check-own .ensures, ne-eqb (c .before .check-own .result) 0 (c .if1 .taken))
+returns c =
+    let n = c .before .check-own .result in
+    let e : n ≡ checkOwn viewMark viewLength (c .before .before .before .before .args .bytes .now) = c .before .check-own .ensures in
+    rw (← e, ne-eqb n 0 (c .if1 .taken))
 
 decode-view-requires : tie.Need-decode-view-requires
 decode-view-requires c κs =

@@ -5,7 +5,8 @@ use Prim.Native.Nat.{_≤_, _-_}
 use Rattle.seats.specs.Seats.{serves}
 use Rattle.seats.specs.declared.SeatSet.{SeatSet}
 use mathlib.Core.Logic.{⊎-elim}
-use Rattle.row.specs.Row.{stateOf, Changed}
+use Rattle.row.specs.Row.{stateOf}
+use Rattle.row.specs.Changes.{Changed}
 use Rattle.round_end.specs.Emptied.{emptied}
 use Rattle.round_end.proofs.Emptying.{emptied-none, emptied-one, emptied-skip, stored-length, used-length}
 use Rattle.row_stores.proofs.Stores.{then}

@@ -5,13 +5,12 @@ use Prim.Native.Nat.{max, ℕ, _≤_, _-_}
 use Rattle.laws.specs.Fin.{largest}
 use Rattle.rules.specs.Rules.{startOf, viewOf}
 use Rattle.row.specs.Row.{stateOf}
-use Rattle.laws.proofs.Loops.{largest-one}
-use Rattle.parts.proofs.Loops.{Filling, filling-none, filling-one, filling-all}
+use Rattle.laws.proofs.Loops.{Filling, filling-none, filling-set, filling-all, largest-one}
 use Rattle.round_end.proofs.view_of.Statement.{statement}
 use Rattle.round_end.proofs.view_of.Tie as tie
 
 abbrev Inv-loop : tie.InvT-loop
-Inv-loop s net starts₀ top₀ o₀ starts top o = (o ≤ 16) × Filling 16 (startOf (stateOf s)) o starts × (top ≡ largest o (startOf (stateOf s)))
+Inv-loop s net starts₀ top₀ o₀ starts top o = (o ≤ 16) × Filling 16 0 (startOf (stateOf s)) o starts × (top ≡ largest o (startOf (stateOf s)))
 
 abbrev μ-loop : tie.MeasureT-loop
 μ-loop s net starts₀ top₀ o₀ starts top o = 16 - o
@@ -21,7 +20,7 @@ net-requires c κs = c .before .pre .0
 
 loop-holds : tie.Need-loop-holds Inv-loop μ-loop
 unfolding largest
-loop-holds c = (omega arith, filling-none 16 _ _ refl, refl)
+loop-holds c = (omega arith, filling-none 16 0 _ _ refl, refl)
 
 cast-serves : tie.Need-cast-serves Inv-loop μ-loop
 cast-serves c = omega arith
@@ -58,7 +57,7 @@ loop-again c =
     let f : c .before .counted .result ≡ startOf s (l .o) = c .before .counted .ensures ∙ rw (c .before .before .before .serves .ensures, c .before .before .stored-start .ensures, c .before .before .before .before .before .before .net .ensures) in
     let m : c .larger .result ≡ max (c .before .counted .result) (l .top) = c .larger .ensures in (
       omega arith,
-      filling-one 16 (startOf s) (l .o) (l .starts) (l .inv .1) (omega arith) _ f,
+      filling-set 16 0 (startOf s) (l .o) (l .starts) (l .inv .1) (omega arith) _ f,
       m ∙ rw (f, l .inv .2, largest-one),
     )
 
@@ -77,7 +76,7 @@ returns c =
     let l = c .before .loop in
     let s = stateOf (c .before .before .before .before .args .s .now) in
     let e : l .o ≡ 16 = omega arith in
-    rw (l .inv .2, e, c .before .before .net .ensures, filling-all 16 (startOf s) (l .o) (l .starts) (l .inv .1) (omega arith))
+    rw (l .inv .2, e, c .before .before .net .ensures, filling-all 16 0 (startOf s) (l .o) (l .starts) (l .inv .1) (omega arith))
 
 pub view-of-spec : {M : Type 1} → statement M
 view-of-spec =

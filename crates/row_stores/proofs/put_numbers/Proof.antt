@@ -1,7 +1,7 @@
 use mathlib.Core.Path.{_≡_, _∙_}
 use lib.ListN.{length, length-set}
 use native.Mathlib.Omega.{arith}
-use Rattle.row_stores.proofs.Stores.{put-two}
+use Rattle.laws.proofs.Seqs.{sets-two}
 use borrow.Author.Needs.{needs}
 use Rattle.row_stores.proofs.put_numbers.Statement.{statement}
 use Rattle.row_stores.proofs.put_numbers.Tie as tie
@@ -39,7 +39,7 @@ same-length c = c .before .before .put-run .kept .0 ∙ simp length-set
 returns : tie.Need-returns
 returns c =
     let s = c .before .before .before .before .before .before .args in
-    c .before .before .put-run .ensures ∙ put-two (s .s .now) (s .t5) (s .at) (s .start) (s .number)
+    c .before .before .put-run .ensures ∙ sets-two (s .s .now) (s .t5) (s .at) (s .start) (s .number)
 
 pub put-numbers-spec : {M : Type 1} → statement M
 put-numbers-spec =

@@ -3,7 +3,7 @@ use Prim.Native.Nat.{_/_, _%_}
 use lib.ListN.{length-set}
 use native.Mathlib.Omega.{arith}
 use Rattle.row.specs.Row.{word}
-use Rattle.row_stores.proofs.Stores.{put-two}
+use Rattle.laws.proofs.Seqs.{sets-two}
 use borrow.Author.Needs.{needs}
 use Rattle.row_stores.proofs.put_set.Statement.{statement}
 use Rattle.row_stores.proofs.put_set.Tie as tie
@@ -35,7 +35,7 @@ same-length c = search needs
 returns : tie.Need-returns
 returns c =
     let s = c .before .before .args in
-    put-two (s .s .now) [] (s .at) (s .x .bits % word) (s .x .bits / word)
+    sets-two (s .s .now) [] (s .at) (s .x .bits % word) (s .x .bits / word)
 
 pub put-set-spec : {M : Type 1} → statement M
 put-set-spec =

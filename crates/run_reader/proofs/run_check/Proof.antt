@@ -1,3 +1,6 @@
+use Prim.Native.Nat.{_<_}
+use native.Mathlib.Omega.{arith}
+use lib.ListN.{length}
 use borrow.Author.Tests.{lt-ltb, le-ltb, eq-eqb, ne-eqb}
 use Rattle.run_reader.specs.Run.{runCheck}
 use borrow.Author.Needs.{needs}
@@ -19,7 +22,9 @@ returns-3 : tie.Need-returns-3
 unfolding runCheck
 returns-3 c =
     let f = c .before .before .before .before in
-    rw (ne-eqb _ _ (f .before .if1 .left), ← f .form-of .ensures, ne-eqb _ _ (c .before .before .if2 .left), lt-ltb _ _ (c .if3 .taken))
+    let t = c .if3 .taken in
+    let short : length (f .before .before .before .args .run .now) < f .form-of .result .length = omega arith in
+    rw (ne-eqb _ _ (f .before .if1 .left), ← f .form-of .ensures, ne-eqb _ _ (c .before .before .if2 .left), lt-ltb _ _ short)
 
 returns-4 : tie.Need-returns-4
 unfolding runCheck

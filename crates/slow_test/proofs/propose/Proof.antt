@@ -8,7 +8,7 @@ use Rattle.rules.specs.Rules.{proposal, slowNumber, ownProposal, proposesSlow}
 use Rattle.parts.specs.Did.{Did}
 use Rattle.parts.proofs.Dids.{did-wrote, did-end}
 use Rattle.parts.proofs.Made.{own-same, slow-written}
-use Rattle.slow_test.proofs.Looks.{number-is, top-fits}
+use Rattle.slow_look.proofs.Looks.{number-found, top-fits}
 use Rattle.slow_test.proofs.propose.Statement.{statement}
 use Rattle.slow_test.proofs.propose.Tie as tie
 
@@ -18,7 +18,7 @@ made c =
     let b = c .before .before .before .before .before .before .before in
     let s = stateOf (b .args .s .now) in
     c .own-proposal .ensures
-    ∙ ap (λ (k : ℕ). ownProposal Slow k s) (c .before .before .slow-number .ensures ∙ number-is s _ (b .args .a) (c .before .before .before .number .ensures) (b .pre .1))
+    ∙ ap (λ (k : ℕ). ownProposal Slow k s) (c .before .before .slow-number .ensures ∙ number-found s _ (b .args .a) (c .before .before .before .number .ensures) (b .pre .1))
 
 did : (c : tie.After-slice-known4) → Did proposesSlow (c .before .before .before .before .before .before .before .before .before .before .before .before .before .before .before .args .s .now) (c .before .before .before .before .before .before .before .before .before .before .before .before .before .before .before .args .out .now) (c .before .before .before .before .before .before .before .before .before .before .before .before .before .before .before .args .at)
     (c .before .before .before .before .before .before .keep-own .last .0) (c .before .before .write-proposal .last .0) (c .before .before .before .before .before .before .before .before .before .before .before .before .before .before .before .args .at + c .before .before .write-proposal .result)

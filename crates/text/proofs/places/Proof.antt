@@ -1,7 +1,7 @@
 use mathlib.Core.Path.{_≡_, refl}
 use Prim.Native.Nat.{_+_, _-_, _^_, _≤_, _<_}
 use native.Mathlib.Omega.{arith}
-use Rattle.text.proofs.Numbers.{places-at, top-fits, power-more}
+use Rattle.text.proofs.Numbers.{places-at, power-fits, power-more}
 use Rattle.text.proofs.places.Statement.{statement}
 use Rattle.text.proofs.places.Tie as tie
 
@@ -22,7 +22,7 @@ returns c =
 mul-top : tie.Need-mul-top Inv-loop μ-loop
 mul-top c =
     let l = c .before .before .loop in
-    let h = top-fits (l .k) (omega arith) in
+    let h = power-fits (l .k) (omega arith) in
     omega (arith, l .inv .2)
 
 add-k : tie.Need-add-k Inv-loop μ-loop

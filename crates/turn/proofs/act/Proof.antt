@@ -1,8 +1,7 @@
 use borrow.Author.Needs.{needs}
 use mathlib.Core.Path.{sym, _∙_}
 use native.Mathlib.Omega.{arith}
-use Rattle.buffers.specs.Place.{windowOf}
-use Rattle.buffers.proofs.Places.{room-fits, window-length, front-fits, read-room}
+use Rattle.buffers.proofs.Places.{room-fits, window-length, read-room}
 use Rattle.turn.proofs.Turning.{acts-read, acts-stop, acts-answer}
 use Rattle.turn.proofs.act.Statement.{statement}
 use Rattle.turn.proofs.act.Tie as tie
@@ -27,21 +26,11 @@ returns-2 c =
     acts-stop (s .args .traced) (s .args .p) (s .args .input .now) (s .args .output .now) (s .pre .0) (s .pre .1)
     (sym (s .pre .2) ∙ c .before .before .if1 .left) (omega (arith, n, c .if2 .taken))
 
-front-requires : tie.Need-front-requires
-front-requires c κs = search needs
-
 answer-requires : tie.Need-answer-requires
-unfolding windowOf
 answer-requires c κs =
-    let s = c .before .before .before .before .before .before .before .before .before .before in
-    let r = room-fits _ _ (s .pre .3) in (
-      s .pre .0,
-      front-fits (s .args .p) (s .args .input .now) (s .pre .4) (s .pre .1) (c .before .front .ensures),
-      s .pre .1 .read,
-      omega arith,
-      s .pre .5,
-      s .pre .6,
-    )
+    let s = c .before .before .before .before .before .before .before .before .before in
+    let r = room-fits _ _ (s .pre .3) in
+    (s .pre .0, s .pre .1, s .pre .4, omega arith, s .pre .5, s .pre .6)
 
 same-length-2 : tie.Need-same-length-2
 same-length-2 c = search needs
@@ -53,24 +42,13 @@ same-length-4 : tie.Need-same-length-4
 same-length-4 c = search needs
 
 returns-3 : tie.Need-returns-3
-unfolding windowOf
 returns-3 c =
-    let s = c .before .before .before .before .before .before .before .before .before .before .before .before .before .before .before in
+    let s = c .before .before .before .before .before .before .before .before .before .before .before .before .before .before in
     let n = window-length (s .args .p) (s .args .input .now) (s .pre .1 .unread) (omega (arith, s .pre .1 .read, s .pre .4)) in
     acts-answer (s .args .traced) (s .args .p) (s .args .input .now) (s .args .output .now) (s .pre .0) (s .pre .1) (s .pre .4)
-    (sym (s .pre .2) ∙ c .before .before .before .before .before .before .before .before .before .before .before .if1 .left) (omega (arith, n, s .pre .1 .unread, c .before .before .before .before .before .before .before .before .before .if2 .left)) (c .before .before .before .before .before .before .front .ensures) (c .before .before .before .before .answer .ensures)
+    (sym (s .pre .2) ∙ c .before .before .before .before .before .before .before .before .before .before .if1 .left) (omega (arith, n, s .pre .1 .unread, c .before .before .before .before .before .before .before .before .if2 .left)) (c .before .before .before .before .answer .ensures)
 
 pub act-spec : {M : Type 1} → statement M
 act-spec =
     tie.close
-    (tie.spec
-    refill-requires
-    same-length
-    returns
-    returns-2
-    front-requires
-    answer-requires
-    same-length-2
-    same-length-3
-    same-length-4
-    returns-3)
+    (tie.spec refill-requires same-length returns returns-2 answer-requires same-length-2 same-length-3 same-length-4 returns-3)

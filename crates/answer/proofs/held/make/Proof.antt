@@ -1,4 +1,4 @@
-use Rattle.step.proofs.Holds.{fresh-holds}
+use Rattle.fresh.proofs.Making.{fresh-holds}
 use Rattle.answer.proofs.Holding.{made}
 use borrow.Author.Needs.{needs}
 use Rattle.answer.proofs.held.make.Statement.{statement}

@@ -1,3 +1,6 @@
+use Prim.Native.Nat.{_<_}
+use native.Mathlib.Omega.{arith}
+use lib.ListN.{length}
 use borrow.Author.Tests.{lt-ltb, le-ltb}
 use Rattle.records.specs.Layout.{markOf}
 use borrow.Author.Needs.{needs}
@@ -6,7 +9,10 @@ use Rattle.records.proofs.checks.mark_of.Tie as tie
 
 returns : tie.Need-returns
 unfolding markOf
-returns c = simp (lt-ltb _ _ (c .if1 .taken))
+returns c =
+    let t = c .if1 .taken in
+    let few : length (c .before .before .args .bytes .now) < 2 = omega arith in
+    simp (lt-ltb _ _ few)
 
 shared-slice-read-get16 : tie.Need-shared-slice-read-get16
 shared-slice-read-get16 c = search needs

@@ -1,7 +1,7 @@
 use mathlib.Core.Path.{sym, ap}
 use Rattle.rules.specs.State.{Slot}
 use Rattle.row.specs.Row.{slotOf}
-use Rattle.row.proofs.Parts.{stored-is}
+use Rattle.row.proofs.Parts.{row-stored}
 use borrow.Author.Needs.{needs}
 use Rattle.row.proofs.readers.stored_kind.Statement.{statement}
 use Rattle.row.proofs.readers.stored_kind.Tie as tie
@@ -23,7 +23,7 @@ shared-slice-read-result c = search needs
 
 returns : tie.Need-returns
 unfolding slotOf
-returns c = let s = c .before in sym (ap (λ (v : Slot). v .proposal .kind) (stored-is (s .args .s .now) (s .args .o) (s .pre .1)))
+returns c = let s = c .before in sym (ap (λ (v : Slot). v .proposal .kind) (row-stored (s .args .s .now) (s .args .o) (s .pre .1)))
 
 pub stored-kind-spec : {M : Type 1} → statement M
 stored-kind-spec =

@@ -1,7 +1,7 @@
 use mathlib.Core.Path.{sym, ap, _∙_}
 use Rattle.rules.specs.State.{Slot}
 use Rattle.row.specs.Row.{slotOf}
-use Rattle.row.proofs.Parts.{stored-is}
+use Rattle.row.proofs.Parts.{row-stored}
 use borrow.Author.Needs.{needs}
 use Rattle.row.proofs.readers.stored_members.Statement.{statement}
 use Rattle.row.proofs.readers.stored_members.Tie as tie
@@ -21,7 +21,7 @@ set-at-requires c κs = search needs
 returns : tie.Need-returns
 unfolding slotOf
 returns c = let s = c .before .before in
-    c .set-at .ensures ∙ sym (ap (λ (v : Slot). v .proposal .members) (stored-is (s .args .s .now) (s .args .o) (s .pre .1)))
+    c .set-at .ensures ∙ sym (ap (λ (v : Slot). v .proposal .members) (row-stored (s .args .s .now) (s .args .o) (s .pre .1)))
 
 pub stored-members-spec : {M : Type 1} → statement M
 stored-members-spec =

@@ -1,5 +1,5 @@
 use mathlib.Core.Path.{sym}
-use Rattle.row.proofs.Parts.{used-is}
+use Rattle.row.proofs.Parts.{row-used}
 use borrow.Author.Needs.{needs}
 use Rattle.row.proofs.readers.used.Statement.{statement}
 use Rattle.row.proofs.readers.used.Tie as tie
@@ -14,7 +14,7 @@ shared-slice-read-result : tie.Need-shared-slice-read-result
 shared-slice-read-result c = search needs
 
 returns : tie.Need-returns
-returns c = let s = c .before in sym (used-is (s .args .s .now) (s .args .o) (s .pre .1))
+returns c = let s = c .before in sym (row-used (s .args .s .now) (s .args .o) (s .pre .1))
 
 pub used-spec : {M : Type 1} → statement M
 used-spec = tie.close (tie.spec add-result mul-result shared-slice-read-result returns)

@@ -1,3 +1,4 @@
+use native.Mathlib.Omega.{arith}
 use borrow.Author.Needs.{needs}
 use Rattle.seats.proofs.Forms.{contained, contained-above}
 use Rattle.seats.proofs.SeatSet.contains.Statement.{statement}
@@ -7,10 +8,16 @@ shr-result : tie.Need-shr-result
 shr-result c = search needs
 
 returns : tie.Need-returns
-returns c = let a = c .before .before .args in contained (a .self .bits) (a .seat) (c .before .if1 .taken)
+returns c =
+    let a = c .before .before .args in
+    let t = c .before .if1 .taken in
+    contained (a .self .bits) (a .seat) (omega arith)
 
 returns-2 : tie.Need-returns-2
-returns-2 c = let a = c .before .args in contained-above (a .self .bits) (a .seat) (c .if1 .left)
+returns-2 c =
+    let a = c .before .args in
+    let t = c .if1 .left in
+    contained-above (a .self .bits) (a .seat) (omega arith)
 
 pub contains-spec : {M : Type 1} → statement M
 contains-spec = tie.close (tie.spec shr-result returns returns-2)

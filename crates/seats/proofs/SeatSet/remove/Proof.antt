@@ -1,3 +1,4 @@
+use native.Mathlib.Omega.{arith}
 use borrow.Author.Needs.{needs}
 use mathlib.Core.Path.{sym}
 use Rattle.seats.proofs.Laws.{remove-above}
@@ -9,10 +10,16 @@ shl-t6 : tie.Need-shl-t6
 shl-t6 c = search needs
 
 returns : tie.Need-returns
-returns c = let a = c .before .before .args in removed (a .self .bits) (a .seat) (c .before .if1 .taken)
+returns c =
+    let a = c .before .before .args in
+    let t = c .before .if1 .taken in
+    removed (a .self .bits) (a .seat) (omega arith)
 
 returns-2 : tie.Need-returns-2
-returns-2 c = let a = c .before .args in sym (remove-above (a .self .bits) (a .seat) (c .if1 .left))
+returns-2 c =
+    let a = c .before .args in
+    let t = c .if1 .left in
+    sym (remove-above (a .self .bits) (a .seat) (omega arith))
 
 pub remove-spec : {M : Type 1} → statement M
 remove-spec = tie.close (tie.spec shl-t6 returns returns-2)

@@ -1,0 +1,23 @@
+-- What a reader answers: the number by its own checks, and the record where that is 0.
+use mathlib.Core.Path.{_≡_, refl}
+use mathlib.Core.List.{List}
+use Prim.Native.Nat.{ℕ}
+use Rattle.records.specs.Layout.{reportMark, proposalMark, reportLength, proposalLength, decodeReport, decodeProposal, checkOwn}
+use Rattle.readers.specs.Read.{readReport, readProposal}
+
+module _ (b : List ℕ) where
+  pub report-refusal : readReport b .refusal ≡ checkOwn reportMark reportLength b
+  unfolding readReport
+  report-refusal = refl
+
+  pub report-decoded : readReport b .refusal ≡ 0 → readReport b .report ≡ decodeReport b
+  unfolding readReport
+  report-decoded z = rw z
+
+  pub proposal-refusal : readProposal b .refusal ≡ checkOwn proposalMark proposalLength b
+  unfolding readProposal
+  proposal-refusal = refl
+
+  pub proposal-decoded : readProposal b .refusal ≡ 0 → readProposal b .proposal ≡ decodeProposal b
+  unfolding readProposal
+  proposal-decoded z = rw z

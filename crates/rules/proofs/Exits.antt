@@ -1,0 +1,85 @@
+-- The exits of the step and of making a state: the number that each of them answers.
+use mathlib.Core.Path.{_≡_, refl}
+use mathlib.Core.Bool.{Bool, true, false}
+use mathlib.Core.List.{List, []}
+use mathlib.Core.Logic.{_⊎_, inl, inr}
+use Prim.Native.Nat.{ℕ, _≤_, _<_}
+use native.Mathlib.Omega.{arith}
+use borrow.Author.Tests.{lt-ltb, le-ltb, le-leb, lt-leb, ne-eqb}
+use Rattle.laws.specs.Upd.{ifb}
+use Rattle.records.specs.Layout.{reportMark, proposalMark, reportLength, proposalLength, checkOf, checkOwn, decodeReport, decodeProposal}
+use Rattle.records.proofs.CheckLaws.{own-mark}
+use Rattle.rules.specs.State.{State}
+use Rattle.rules.specs.Rules.{fresh}
+use Rattle.rules.specs.Refusals.{wellFormed, fullRoom, madeOf, unreadable, Event, aReport, aProposal, eventOf, refusalOf, ruleOf}
+use Rattle.rules.specs.Refusals.{refused, accepting, actOf, stepOf, allBytes, size}
+use Rattle.rules.proofs.Steps.{Refused, Accepts, step-cases}
+use Rattle.rules.proofs.Sizes.{step-size}
+
+-- 1
+module _ (o : ℕ) where
+  pub made-0 : o ≤ 15 → madeOf o ≡ record { refusal = 0; state = fresh o }
+  unfolding madeOf
+  made-0 l = rw (le-leb o 15 l)
+
+  pub made-1 : 15 < o → madeOf o ≡ record { refusal = 1; state = fresh 0 }
+  unfolding madeOf
+  made-1 l = rw (lt-leb o 15 l)
+
+module _ (s : State) (b : List ℕ) (room : ℕ) where
+  pub exit-2 : wellFormed s ≡ false → stepOf s b room ≡ refused 2 s
+  unfolding stepOf unreadable
+  exit-2 w = rw w
+
+  module _ (well : wellFormed s ≡ true) where
+    pub exit-3 : room < fullRoom → stepOf s b room ≡ refused 3 s
+    unfolding stepOf unreadable
+    exit-3 l = rw (well, lt-ltb room fullRoom l)
+
+    -- 4 and 5, and what acting on the record answers where they pass
+    module _ (fits : fullRoom ≤ room) where
+      pub exit-unread : (checkOf b ≡ 0 → ⊥) → stepOf s b room .refusal ≡ checkOf b
+      unfolding stepOf unreadable
+      exit-unread h = rw (well, le-ltb room fullRoom fits, ne-eqb (checkOf b) 0 h, ne-eqb (checkOf b) 0 h)
+
+      pub exit-read : checkOf b ≡ 0 → stepOf s b room ≡ actOf s (eventOf b)
+      unfolding stepOf unreadable
+      exit-read c = rw (well, le-ltb room fullRoom fits, c)
+
+module _ (s : State) (e : Event) where
+  -- 6 to 12
+  pub act-checked : (refusalOf s e ≡ 0 → ⊥) → actOf s e .refusal ≡ refusalOf s e
+  unfolding actOf
+  act-checked h = rw (ne-eqb (refusalOf s e) 0 h)
+
+  -- 13
+  pub act-passed : refusalOf s e ≡ 0 → actOf s e .refusal ≡ ifb (wellFormed (ruleOf s e .state)) 0 13
+  unfolding actOf accepting
+  act-passed z = rw z (go (wellFormed (ruleOf s e .state)) refl)
+    where
+      go : (t : Bool) → wellFormed (ruleOf s e .state) ≡ t → accepting s (ruleOf s e) .refusal ≡ ifb (wellFormed (ruleOf s e .state)) 0 13
+      go true w = rw w
+      go false w = rw w
+
+-- the event that bytes are, by their own checks
+pub report-read : (b : List ℕ) → checkOwn reportMark reportLength b ≡ 0 → eventOf b ≡ aReport (decodeReport b)
+unfolding eventOf
+report-read b c = rw (own-mark reportMark reportLength b c)
+
+pub proposal-read : (b : List ℕ) → checkOwn proposalMark proposalLength b ≡ 0 → eventOf b ≡ aProposal (decodeProposal b)
+unfolding eventOf
+proposal-read b c = rw (own-mark proposalMark proposalLength b c)
+
+-- where nothing is written, no byte is
+pub no-bytes : allBytes [] ≡ []
+unfolding allBytes
+no-bytes = refl
+
+-- what the step writes has room
+pub room-enough : (s : State) (b : List ℕ) (room : ℕ) → size (stepOf s b room .written) ≤ room
+unfolding allBytes
+room-enough s b room = go (step-cases s b room)
+  where
+    go : Refused s (stepOf s b room) ⊎ Accepts s b room → size (stepOf s b room .written) ≤ room
+    go (inl r) = rw (r .is) (omega arith)
+    go (inr a) = let z = step-size s b room in omega (arith, a .fits)
