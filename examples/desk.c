@@ -1,5 +1,5 @@
-/* The two questions of the desk program: is this a report or proposal that can be handed in, and which offices does a set
- * of seats concern? Link with libcapi.a. */
+/* The questions of the desk program: is this a report or proposal that can be handed in, which offices does a set of seats
+ * concern, and how many are they? Link with libcapi.a. */
 #include "room.h"
 
 #include <stdio.h>
@@ -23,7 +23,7 @@ static uint64_t seat(int s) { return (uint64_t)1 << s; }
 
 static void print_offices(const char *what, uint64_t set) {
     uint16_t offices = room_offices(set);
-    printf("%s:", what);
+    printf("%s, %d:", what, room_office_count(set));
     if (offices == 0) {
         printf(" none");
     }

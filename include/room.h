@@ -24,6 +24,9 @@ uint8_t room_record_check(const uint8_t *bytes, size_t length);
  * down. Bit o of the answer is set when office o, 0 to 15, has at least one seat in the set; 0 for the empty set. */
 uint16_t room_offices(uint64_t set);
 
+/* How many offices have a seat in the set: 0 to 16, the number of ones in what room_offices answers for it. */
+uint8_t room_office_count(uint64_t set);
+
 /* The words of a state. Their places are in docs/LAYOUT.md; a program need not know them, and may store and copy the words. */
 #define ROOM_STATE_WORDS 425
 

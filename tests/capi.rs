@@ -1,5 +1,5 @@
-// The two calls of libcapi.a beside a version written from document 01 alone. Each case is a kind of input; it passes when
-// the two agree on all of its inputs.
+// The three questions of libcapi.a beside a version written from documents 01 and 02 alone. Each case is a kind of input; it passes
+// when the two agree on all of its inputs.
 #[path = "common/random.rs"]
 mod random;
 
@@ -9,6 +9,7 @@ use random::Random;
 extern "C" {
     fn room_record_check(bytes: *const u8, length: usize) -> u8;
     fn room_offices(set: u64) -> u16;
+    fn room_office_count(set: u64) -> u8;
 }
 
 // Document 01, "Reasons to refuse", 4 and 5.
@@ -36,6 +37,11 @@ fn expected_offices(set: u64) -> u16 {
         }
     }
     offices
+}
+
+// Request 6: the number of the offices with a seat in the set. Office o has seats 4 o to 4 o + 3.
+fn expected_count(set: u64) -> u8 {
+    (0..16).filter(|office| (4 * office..4 * office + 4).any(|seat| set >> seat & 1 == 1)).count() as u8
 }
 
 struct Tally {
@@ -77,8 +83,13 @@ impl Tally {
         }));
     }
 
+    // Both questions about each set.
     fn sets(&mut self, name: &str, sets: impl Iterator<Item = u64>) {
-        self.case(name, sets.map(|set| (format!("set {set:#018x}"), unsafe { room_offices(set) }, expected_offices(set))));
+        let sets: Vec<u64> = sets.collect();
+        self.case(name, sets.iter().map(|&set| (format!("set {set:#018x}"), unsafe { room_offices(set) }, expected_offices(set))));
+        self.case(&format!("{name}, how many offices"), sets.iter().map(|&set| {
+            (format!("set {set:#018x}"), unsafe { room_office_count(set) } as u16, expected_count(set) as u16)
+        }));
     }
 }
 

@@ -2,7 +2,7 @@
 ghost use mathlib.Core.Path.{_≡_};
 ghost use Prim.Native.Nat.{_≤_};
 ghost use Rattle.records.specs.Layout.{checkOf};
-ghost use Rattle.seats.specs.Seats.{officesOf};
+ghost use Rattle.seats.specs.Seats.{officesOf, countOf};
 ghost use Rattle.rules.specs.Refusals.{fullRoom};
 ghost use Rattle.fresh.specs.Fresh.{freshRow};
 ghost use Rattle.capi.specs.Calls.{answerNumber, callOf};
@@ -21,7 +21,15 @@ pub extern "C" fn room_record_check(bytes: &[u8]) -> u8
 pub extern "C" fn room_offices(set: u64) -> u16
     ensures { λ r. ⌜ r ≡ officesOf set ⌝ }
 {
-    SeatSet { bits: set }.offices()
+    SeatSet { bits: set }.offices().bits
+}
+
+// How many offices have a seat in a set.
+#[no_mangle]
+pub extern "C" fn room_office_count(set: u64) -> u8
+    ensures { λ r. ⌜ r ≡ countOf set ⌝ }
+{
+    SeatSet { bits: set }.offices().count
 }
 
 // Makes a state in the words lent.

@@ -1,6 +1,6 @@
 -- Below n: all, some, the largest, sums; a test by cases.
 use mathlib.Core.Path.{_≡_, refl, sym, ap}
-use mathlib.Core.Bool.{Bool, true, false, _&&_, _||_, not}
+use mathlib.Core.Bool.{Bool, true, false, _&&_, _||_, not, and-true}
 use mathlib.Core.Logic.{_⊎_, inl, inr, _↔_}
 use Prim.Native.Nat.{ℕ, zero, suc, _+_, _*_, _≤_, _<_, max}
 use native.Mathlib.Omega.{arith}
@@ -77,23 +77,6 @@ pub allb-ext : (n : ℕ) (p q : ℕ → Bool) → ((k : ℕ) → k < n → p k �
 unfolding allb
 allb-ext zero p q h = refl
 allb-ext (suc n) p q h = let a = h n (omega arith) in let b = allb-ext n p q (λ k l. h k (omega arith)) in cc
-
--- all or a counterexample
-pub all-or : (n : ℕ) (p : ℕ → Bool) → ((k : ℕ) → k < n → p k ≡ true) ⊎ ((k : ℕ) × (k < n) × (p k ≡ false))
-all-or zero p = inl (λ k h. absurd (omega arith))
-all-or (suc n) p = go (p n) refl (all-or n p)
-  where
-    Goal : Type 0
-    Goal = ((k : ℕ) → k < suc n → p k ≡ true) ⊎ ((k : ℕ) × (k < suc n) × (p k ≡ false))
-
-    last : p n ≡ true → ((k : ℕ) → k < n → p k ≡ true) → (k : ℕ) → k < suc n → Dec (k ≡ n) → p k ≡ true
-    last e f k h (yes q) = rw q e
-    last e f k h (no q) = f k (omega arith)
-
-    go : (t : Bool) → p n ≡ t → ((k : ℕ) → k < n → p k ≡ true) ⊎ ((k : ℕ) × (k < n) × (p k ≡ false)) → Goal
-    go false e r = inr (n, omega arith, e)
-    go true e (inl f) = inl (λ k h. last e f k h (ℕ-discrete k n))
-    go true e (inr c) = inr (c .0, omega arith, c .2)
 
 pub anyb-in : (n : ℕ) (p : ℕ → Bool) (k : ℕ) → k < n → p k ≡ true → anyb n p ≡ true
 unfolding anyb
@@ -253,6 +236,28 @@ sum-times (suc n) t c = go (t n) (sum-times n t c)
         → ifb b c 0 + sum n (λ k. ifb (t k) c 0) ≡ (ifb b 1 0 + sum n (λ k. ifb (t k) 1 0)) * c
     go true e = omega arith
     go false e = omega arith
+
+-- one passes exactly where the count is not 0
+pub any-count : (n : ℕ) (t : ℕ → Bool) → anyb n t ≡ ltb 0 (sum n (λ k. ifb (t k) 1 0))
+unfolding anyb sum
+any-count zero t = refl
+any-count (suc n) t = go (t n) (any-count n t)
+  where
+    go : (b : Bool) → anyb n t ≡ ltb 0 (sum n (λ k. ifb (t k) 1 0)) → b || anyb n t ≡ ltb 0 (ifb b 1 0 + sum n (λ k. ifb (t k) 1 0))
+    go true e = sym (lt-ltb 0 (1 + sum n (λ k. ifb (t k) 1 0)) (omega arith))
+    go false e = let z : 0 + sum n (λ k. ifb (t k) 1 0) ≡ sum n (λ k. ifb (t k) 1 0) = omega arith in rw z e
+
+-- without one that passes, the count is one less
+pub count-without : (n : ℕ) (t : ℕ → Bool) (i : ℕ) → i < n → t i ≡ true
+    → sum n (λ k. ifb (t k && not (eqb k i)) 1 0) + 1 ≡ sum n (λ k. ifb (t k) 1 0)
+count-without n t i h e =
+    let z = sum-one n (λ k. ifb (t k && not (eqb k i)) 1 0) (λ k. ifb (t k) 1 0) i h other in
+    let a : ifb {A = ℕ} (t i) 1 0 ≡ 1 = rw e in
+    let b : ifb {A = ℕ} (t i && not (eqb i i)) 1 0 ≡ 0 = rw (e, eq-eqb i i refl) in
+    omega arith
+  where
+    other : (k : ℕ) → (k ≡ i → ⊥) → ifb {A = ℕ} (t k && not (eqb k i)) 1 0 ≡ ifb (t k) 1 0
+    other k q = rw (ne-eqb k i q) (ap (λ (b : Bool). ifb {A = ℕ} b 1 0) (and-true (t k)))
 
 pub sum-mono : (n : ℕ) (f g : ℕ → ℕ) → ((k : ℕ) → k < n → f k ≤ g k) → sum n f ≤ sum n g
 unfolding sum

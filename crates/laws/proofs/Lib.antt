@@ -4,6 +4,7 @@ pub mod Bit
 pub mod Fin
 pub mod Grid
 pub mod Loops
+pub mod Lowest
 pub mod Seqs
 pub mod Tab
 pub mod Upd

@@ -1,6 +1,7 @@
 pub mod Big
 pub mod Bit
 pub mod Fin
+pub mod Lowest
 pub mod Tab
 pub mod Upd
 pub mod Lists

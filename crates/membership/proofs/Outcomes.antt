@@ -11,6 +11,7 @@ use Rattle.records.specs.declared.Proposal.{Proposal}
 use Rattle.rules.specs.State.{State}
 use Rattle.rules.specs.Rules.{Outcome, nothingWritten, andThen, netAfter, withNet, seated, slowTest, agreementTest, tests, reportRule, proposalRule}
 use Rattle.rules.specs.Refusals.{Event, ruleOf, size, fullRoom}
+use Rattle.rules.proofs.Recipients.{seated-is}
 use Rattle.rules.proofs.Sizes.{event-size}
 use Rattle.row.specs.Changes.{withNetSet}
 use Rattle.parts.specs.Parts.{receiving, fastRound}
@@ -44,6 +45,9 @@ module _ (s : State) (r : Report) (net : SeatSet) (own : ℕ) (e : net .bits ≡
   pub report-seated : serves (net .bits) own ≡ true → fastRound (withNetSet net s) ≡ reportRule s r
   unfolding reportRule seated withNet
   report-seated f = let g : serves (netAfter (s .net .bits) r) (s .own) ≡ true = rw (e, o) at f in rw g (ap fastRound net-is)
+
+  pub net-seated : serves (net .bits) own ≡ true → seated (withNetSet net s) ≡ true
+  net-seated f = seated-is (withNetSet net s) ∙ (rw o at f)
 
 -- a proposal, with the net view or with other members
 module _ (s : State) (p : Proposal) (net : SeatSet) (e : net ≡ s .net) where

@@ -11,7 +11,7 @@ ghost use mathlib.Core.Bool.{true};
 ghost use mathlib.Core.Path.{_≡_};
 ghost use Prim.Native.Nat.{_≤_, _<_};
 ghost use lib.ListN.{length};
-ghost use Rattle.rules.specs.Rules.{tests, reportRule, proposalRule};
+ghost use Rattle.rules.specs.Rules.{seated, tests, reportRule, proposalRule};
 ghost use Rattle.rules.specs.Refusals.{limit, fullRoom, wellFormed};
 ghost use Rattle.row.specs.Row.{Row, stateOf};
 ghost use Rattle.parts.specs.Did.{Did, Fits};
@@ -28,7 +28,7 @@ fn tests(s: &mut [u32], out: &mut [u8], at: usize) -> usize
 
 // A report at an office with a seat in the net view.
 fn fast_round(s: &mut [u32], out: &mut [u8]) -> usize
-    requires { ⌜ Row (now s) × Bounded limit (stateOf (now s)) × Fits fastRound (now s) (now out) 0 ⌝ }
+    requires { ⌜ Row (now s) × Bounded limit (stateOf (now s)) × Fits fastRound (now s) (now out) 0 × (seated (stateOf (now s)) ≡ true) ⌝ }
     ensures { λ n. ⌜ Did fastRound (now (s .entry)) (now (out .entry)) 0 (now (s .exit)) (now (out .exit)) n ⌝ }
 {
     let noticed = opens(s, out, 0);

@@ -5,7 +5,7 @@ use proposal_writer::write_proposal;
 use records::FAST;
 use records::Proposal;
 use seats::SeatSet;
-use seats::seats_of;
+ghost use mathlib.Core.Bool.{true};
 ghost use mathlib.Core.Path.{_≡_};
 ghost use Prim.Native.Nat.{_≤_, _<_};
 ghost use Rattle.laws.specs.Fin.{largest};
@@ -13,7 +13,7 @@ ghost use Rattle.laws.specs.Tab.{tab};
 ghost use Rattle.laws.specs.Upd.{ifb};
 ghost use Rattle.seats.specs.Seats.{serves};
 ghost use Rattle.rules.specs.State.{usedAt};
-ghost use Rattle.rules.specs.Rules.{nextNumber, ownProposal, proposed, hasRecipient, proposesFast};
+ghost use Rattle.rules.specs.Rules.{seated, nextNumber, ownProposal, proposed, hasRecipient, proposesFast};
 ghost use Rattle.row.specs.Row.{Row, stateOf, modeOf};
 ghost use Rattle.row.specs.Changes.{Changed};
 ghost use Rattle.parts.specs.Did.{Did, Fits};
@@ -92,18 +92,20 @@ pub fn keep_own(s: &mut [u32], kind: u8, p: Proposal)
     row_changes::set_mode(s, kind);
 }
 
-// Some office other than the sender has a seat among the members.
+// Some office other than the sender has a seat among the members. The sender has one itself (step 2), so this is so exactly where the
+// members are of more offices than one.
 fn has_recipient(p: Proposal) -> bool
-    requires { ⌜ p .sender < 16 ⌝ }
+    requires { ⌜ (p .sender < 16) × (serves (p .members .bits) (p .sender) ≡ true) ⌝ }
     ensures { λ r. ⌜ r ≡ hasRecipient p ⌝ }
 {
     let members = p.members;
-    let others = members.without(seats_of(p.sender));
-    !others.is_empty()
+    let offices = members.offices();
+    1 < offices.count
 }
 
+// For an office with a seat in the net view.
 pub fn proposes_fast(s: &mut [u32], out: &mut [u8], at: usize) -> usize
-    requires { ⌜ Row (now s) × Bounded reach (stateOf (now s)) × Fits proposesFast (now s) (now out) at ⌝ }
+    requires { ⌜ Row (now s) × Bounded reach (stateOf (now s)) × Fits proposesFast (now s) (now out) at × (seated (stateOf (now s)) ≡ true) ⌝ }
     ensures { λ n. ⌜ Did proposesFast (now (s .entry)) (now (out .entry)) at (now (s .exit)) (now (out .exit)) n ⌝ }
 {
     let p = own_proposal(s, FAST, next_number(s));

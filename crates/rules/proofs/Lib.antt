@@ -1,5 +1,6 @@
 pub mod Parts
 pub mod Tests
+pub mod Recipients
 pub mod Encoded
 pub mod Steps
 pub mod Walk

@@ -7,11 +7,15 @@ use native.Mathlib.Omega.{arith}
 use native.Mathlib.Decide.{decLt}
 use lib.Dec.{eqb, lit<}
 use lib.Bits.{bitOr, bitAnd, and-mask, and-le-l, and-zero-r}
+use lib.Count.{ones, ones-le, trailingZeros, trailing-le}
 use lib.Pow.{pow-lt, shl-exact}
+use mir.Syntax.{w8}
+use mir.Val.{Fits}
 use borrow.Author.Tests.{eq-eqb, ne-eqb, lt-ltb, le-ltb}
 use Rattle.laws.proofs.Bit.{bit-shr}
-use Rattle.seats.specs.Seats.{has, containsOf, insertOf, removeOf, officeOf, seatsOf, serves}
+use Rattle.seats.specs.Seats.{has, containsOf, insertOf, removeOf, officeOf, seatsOf, serves, officesOf, touched}
 use Rattle.seats.proofs.Laws.{has-and, has-empty, has-seats, seat-serves, serves-seat, serves-below, same-seats}
+use Rattle.seats.proofs.Offices.{count-ones}
 
 shl-one : (s : ℕ) → s < 64 → 1 * 2 ^ s % 2 ^ 64 ≡ 2 ^ s
 shl-one s h = rw one-mul (mod-eq-of-lt (pow-lt h))
@@ -69,3 +73,14 @@ shares x o m hx q = rw q (go (serves x o) refl)
     go : (t : Bool) → serves x o ≡ t → not (eqb (bitAnd x (seatsOf o)) 0) ≡ t
     go true e = ap not (ne-eqb (bitAnd x (seatsOf o)) 0 (shares-some x o hx e))
     go false e = ap not (eq-eqb (bitAnd x (seatsOf o)) 0 (shares-none x o hx e))
+
+-- the offices with their ones are what is asked
+pub with-ones : (x b : ℕ) → b ≡ officesOf x → record { bits = b; count = ones b } ≡ touched x
+with-ones x b e = rw (e, count-ones x)
+
+-- a count of digits fits a byte
+pub ones-fit : (x : ℕ) → x < 2 ^ 64 → Fits w8 (ones x)
+ones-fit x h = omega (arith, ones-le 64 x h)
+
+pub trailing-fit : (b : ℕ) → Fits w8 (trailingZeros 16 b)
+trailing-fit b = omega (arith, trailing-le 16 b)

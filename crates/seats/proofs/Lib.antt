@@ -1,4 +1,5 @@
 -- The laws of seat sets; and what the proofs of several functions use.
 mod Forms
-mod Gather
+mod Gathering
 pub mod Laws
+pub mod Offices

@@ -4,7 +4,10 @@ use Prim.Native.Nat.{ℕ, zero, suc, _+_, _-_, _*_, _/_, _^_}
 use lib.Dec.{eqb, ltb}
 use lib.Bits.{bitOr, bitAnd}
 use Rattle.laws.specs.Bit.{bit}
+use Rattle.laws.specs.Fin.{sum}
+use Rattle.laws.specs.Lowest.{lowestBelow}
 use Rattle.laws.specs.Upd.{ifb}
+use Rattle.seats.specs.declared.OfficeSet.{OfficeSet}
 
 -- bit s of the set x is set: seat s is in it
 unfoldable pub has : ℕ → ℕ → Bool
@@ -48,3 +51,15 @@ packed (suc n) p = packed n p + ifb (p n) (2 ^ n) 0
 -- the offices of a set, as a sixteen-bit set: bit o is set when office o is one of them
 unfoldable pub officesOf : ℕ → ℕ
 officesOf x = packed 16 (serves x)
+
+-- the number of the offices of a set: of the sixteen, those with a seat in it
+unfoldable pub countOf : ℕ → ℕ
+countOf x = sum 16 (λ o. ifb (serves x o) 1 0)
+
+-- which offices a set touches, and how many they are
+abbrev pub touched : ℕ → OfficeSet
+touched x = record { bits = officesOf x; count = countOf x }
+
+-- the lowest office of a sixteen-bit set of offices; 16 where it is empty
+unfoldable pub lowestOf : ℕ → ℕ
+lowestOf b = lowestBelow 16 (has b)

@@ -1,7 +1,7 @@
-// Sets of seats, and the offices of a set. There are 64 seats, 0 to 63; seat s belongs to office s / 4, rounded down.
+// Sets of seats, and the offices of a set with their count. There are 64 seats, 0 to 63; seat s belongs to office s / 4, rounded down.
 ghost use mathlib.Core.Path.{_≡_};
 ghost use lib.Dec.{eqb};
-ghost use Rattle.seats.specs.Seats.{containsOf, insertOf, removeOf, unionOf, withoutOf, officeOf, seatsOf, serves, officesOf};
+ghost use Rattle.seats.specs.Seats.{containsOf, insertOf, removeOf, unionOf, withoutOf, officeOf, seatsOf, serves, officesOf, touched, lowestOf};
 
 const SEATS: u8 = 64;
 
@@ -88,24 +88,44 @@ impl SeatSet {
         self.bits & seats.bits != 0
     }
 
-    // The four seats of each office fall onto its lowest one, and these sixteen bits close up by halves.
-    fn gather(self) -> u64
-        ensures { λ r. ⌜ r ≡ officesOf (self .bits) ⌝ }
+    // Which offices have a seat in the set, and how many they are.
+    pub fn offices(self) -> OfficeSet
+        ensures { λ r. ⌜ r ≡ touched (self .bits) ⌝ }
     {
-        let x = self.bits;
-        let a = (x | (x >> 1) | (x >> 2) | (x >> 3)) & 0x1111_1111_1111_1111;
-        let b = (a | (a >> 3)) & 0x0303_0303_0303_0303;
-        let c = (b | (b >> 6)) & 0x000f_000f_000f_000f;
-        let d = (c | (c >> 12)) & 0x0000_00ff_0000_00ff;
-        (d | (d >> 24)) & 0xffff
+        let seats = self.bits;
+        let bits = gather(seats) as u16;
+        let count = u16::count_ones(bits) as u8;
+        OfficeSet {
+            bits: bits,
+            count: count,
+        }
     }
+}
 
-    // The offices of the set: bit o is set when office o has a seat in it.
-    pub fn offices(self) -> u16
-        ensures { λ r. ⌜ r ≡ officesOf (self .bits) ⌝ }
+// Bit o of `bits` is set when office o is in the set; `count` is the number of these offices.
+pub struct OfficeSet {
+    pub bits: u16,
+    pub count: u8,
+}
+
+impl OfficeSet {
+    // 16 where the set is empty.
+    pub fn lowest(self) -> u8
+        ensures { λ r. ⌜ r ≡ lowestOf (self .bits) ⌝ }
     {
-        self.gather() as u16
+        u16::trailing_zeros(self.bits) as u8
     }
+}
+
+// The four seats of each office fall onto its lowest one, and these sixteen bits close up by halves.
+fn gather(x: u64) -> u64
+    ensures { λ r. ⌜ r ≡ officesOf x ⌝ }
+{
+    let a = (x | (x >> 1) | (x >> 2) | (x >> 3)) & 0x1111_1111_1111_1111;
+    let b = (a | (a >> 3)) & 0x0303_0303_0303_0303;
+    let c = (b | (b >> 6)) & 0x000f_000f_000f_000f;
+    let d = (c | (c >> 12)) & 0x0000_00ff_0000_00ff;
+    (d | (d >> 24)) & 0xffff
 }
 
 pub fn office_of(seat: u8) -> u8

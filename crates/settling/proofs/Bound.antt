@@ -15,7 +15,7 @@ use Rattle.laws.proofs.Lists.{every-append, every-head, every-map, every-tail}
 use Rattle.laws.specs.Upd.{upd, ifb, upd2}
 use Rattle.laws.proofs.Upd.{upd-same, upd-other, upd-cases, upd-both}
 use Rattle.laws.proofs.Fin.{and-l, and-r, if-cases, if-le}
-use Rattle.seats.specs.Seats.{serves}
+use Rattle.seats.specs.Seats.{serves, countOf}
 use Rattle.records.specs.declared.Proposal.{Proposal}
 use Rattle.rules.specs.State.{Slow, fast, slow}
 use Rattle.runs.specs.World.{Item, without}
@@ -23,7 +23,7 @@ use Rattle.laws.proofs.Grid.{upd2-cases}
 use Rattle.runs.proofs.Arrays.{Offices, mailTo, propose, receive, conclude, relink, Proposes, Calls, Chosen}
 use Rattle.runs.proofs.Arrays.{SlowTest, not-called, called, AgreementTest, not-agreed, agreed, both}
 use Rattle.runs.proofs.Links.{every-without}
-use Rattle.settling.specs.Statement.{between, onWay, countOf, OfA}
+use Rattle.settling.specs.Statement.{between, onWay, OfA}
 use Rattle.settling.proofs.Invariants.{Losing, Inv, HappensFairly, fair-idle, fair-loss, fair-leave, fair-report, fair-store, fair-answer}
 use Rattle.settling.proofs.Count.{total, total-link, total-else, total-grow, total-mono, total-length, over, over-one, over-bound}
 use Rattle.settling.proofs.Count.{isOld, older, older-length, older-snoc, older-without, length-without, upTo, upTo-length, upTo-entered}

@@ -1,30 +1,32 @@
 -- Counting: over the links between offices of A, over the offices of A, over round numbers.
 use mathlib.Core.Path.{_≡_, refl, sym, ap}
-use mathlib.Core.Bool.{Bool, true, false, and-true}
+use mathlib.Core.Bool.{Bool, true, false, _&&_, not}
 use mathlib.Core.List.{List, [], _∷_, _++_, List·Memᴰ, List·Memᴰ·head, List·Memᴰ·tail}
 use Prim.Native.Nat.{ℕ, zero, suc, _+_, _-_, _*_, _≤_, _<_}
 use native.Mathlib.Omega.{arith}
+use native.Mathlib.Decide.{ℕ-discrete}
 use lib.ListN.{length}
-use lib.Dec.{ltb}
-use borrow.Author.Tests.{ltb-true, ltb-false, eq-eqb, ne-eqb, lt-ltb, le-ltb}
+use lib.Dec.{eqb, ltb}
+use borrow.Author.Tests.{ltb-true, ltb-false, ne-eqb, lt-ltb, le-ltb}
 use Rattle.laws.specs.Upd.{upd, ifb, upd2}
 use Rattle.laws.proofs.Upd.{upd-same, upd-other}
 use Rattle.laws.specs.Fin.{sum}
 use Rattle.laws.proofs.Fin.{sum-ext, sum-one, sum-add, sum-times, sum-mono, if-le}
-use Rattle.seats.specs.Seats.{serves}
+use Rattle.seats.specs.Seats.{serves, countOf}
+use Rattle.seats.proofs.Offices.{count-sum, others-count}
 use Rattle.runs.specs.World.{Item, without}
-use Rattle.settling.specs.Statement.{between, onWay, countOf}
+use Rattle.settling.specs.Statement.{between, onWay}
 
--- an office of A has one fewer others
-others-count : (A me : ℕ) → (me < 16) × (serves A me ≡ true) → sum 16 (λ j. ifb (between A me j) 1 0) ≡ countOf A - 1
-others-count A me h =
-    let z = sum-one 16 (λ j. ifb (between A me j) 1 0) (λ j. ifb (serves A j) 1 0) me (h .0) else in
-    let a : ifb {A = ℕ} (serves A me) 1 0 ≡ 1 = rw (h .1) in
-    let b : ifb {A = ℕ} (between A me me) 1 0 ≡ 0 = rw (h .1, eq-eqb me me refl) in
+-- from an office of A there is a link to each of the others
+links-count : (A me : ℕ) → (me < 16) × (serves A me ≡ true) → sum 16 (λ j. ifb (between A me j) 1 0) ≡ countOf A - 1
+links-count A me h =
+    let z = others-count A me (h .0) (h .1) in
+    let e = sum-ext 16 (λ j. ifb (between A me j) 1 0) (λ j. ifb (serves A j && not (eqb j me)) 1 0) (λ j l. same j (ℕ-discrete j me)) in
     omega arith
   where
-    else : (k : ℕ) → (k ≡ me → ⊥) → ifb {A = ℕ} (between A me k) 1 0 ≡ ifb (serves A k) 1 0
-    else k n = rw (h .1, ne-eqb me k (λ e. n (sym e))) (ap (λ (t : Bool). ifb {A = ℕ} t 1 0) (and-true (serves A k)))
+    same : (j : ℕ) → Dec (j ≡ me) → ifb {A = ℕ} (between A me j) 1 0 ≡ ifb (serves A j && not (eqb j me)) 1 0
+    same j (yes e) = rw (h .1, e)
+    same j (no n) = rw (h .1, ne-eqb me j (λ e. n (sym e)), ne-eqb j me n)
 
 module _ (A : ℕ) (w : List Item → ℕ) where
   -- a measure w of the links from i to the other offices of A, and of all links between offices of A
@@ -75,7 +77,7 @@ module _ (A : ℕ) (w : List Item → ℕ) where
       ≡ sum 16 (λ j. ifb (between A me j) (w (link me j)) 0 + ifb (between A me j) c 0)
       = sum-ext 16 _ _ (λ j lt. each j (between A me j) (e j)) in
       let d = sum-add 16 (λ j. ifb (between A me j) (w (link me j)) 0) (λ j. ifb (between A me j) c 0) in
-      let f : sum 16 (λ j. ifb (between A me j) c 0) ≡ (countOf A - 1) * c = rw (others-count A me h) at (sum-times 16 (between A me) c) in
+      let f : sum 16 (λ j. ifb (between A me j) c 0) ≡ (countOf A - 1) * c = rw (links-count A me h) at (sum-times 16 (between A me) c) in
       omega arith
     where
       each : (j : ℕ) (t : Bool) → (t ≡ true → w (row j) ≡ w (link me j) + c)
@@ -114,7 +116,7 @@ module _ (A : ℕ) where
   unfolding over
   over-bound f c h =
       let a = sum-mono 16 (λ i. ifb (serves A i) (f i) 0) (λ i. ifb (serves A i) c 0) (λ i hi. each i (serves A i) (λ s. h i (hi, s))) in
-      let b = sum-times 16 (serves A) c in
+      let b : sum 16 (λ i. ifb (serves A i) c 0) ≡ countOf A * c = rw (← count-sum A) at (sum-times 16 (serves A) c) in
       omega arith
     where
       each : (i : ℕ) (t : Bool) → (t ≡ true → f i ≤ c) → ifb t (f i) 0 ≤ ifb t c 0

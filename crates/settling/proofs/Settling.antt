@@ -10,7 +10,7 @@ use lib.Dec.{ltb}
 use borrow.Author.Tests.{ltb-true, ltb-false}
 use Rattle.laws.specs.Lists.{Every}
 use Rattle.laws.proofs.Lists.{every-head}
-use Rattle.seats.specs.Seats.{serves}
+use Rattle.seats.specs.Seats.{serves, countOf}
 use Rattle.records.specs.declared.Report.{Report}
 use Rattle.records.specs.declared.Proposal.{Proposal}
 use Rattle.records.specs.declared.View.{View}
@@ -25,7 +25,7 @@ use Rattle.runs.proofs.WorldArrays.{SeenAll, below-sixteen}
 use Rattle.runs.proofs.Start.{atStart, start-numbers}
 use Rattle.runs.proofs.Places.{nth-same, at-next, drop-next, clock-first, along}
 use Rattle.runs.proofs.Runs.{Shown, shown-along, shown-at}
-use Rattle.settling.specs.Statement.{onWay, countOf, deliveryOne, deliveries, OfA, Assumed, AllReported, Settled, Settles}
+use Rattle.settling.specs.Statement.{onWay, deliveryOne, deliveries, OfA, Assumed, AllReported, Settled, Settles}
 use Rattle.settling.proofs.Invariants.{Done, Inv, HappensFairly}
 use Rattle.settling.proofs.AfterTests.{inv-acts}
 use Rattle.settling.proofs.Quiet.{quiet-view}

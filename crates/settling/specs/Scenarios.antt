@@ -12,7 +12,7 @@ use Rattle.laws.specs.Fin.{allb, anyb, largest, sum}
 use Rattle.laws.specs.Tab.{tab}
 use Rattle.laws.specs.Lists.{runs}
 use Rattle.laws.specs.Upd.{ifb, upd}
-use Rattle.seats.specs.Seats.{has, serves, unionOf, withoutOf}
+use Rattle.seats.specs.Seats.{has, serves, countOf, unionOf, withoutOf}
 use Rattle.records.specs.Layout.{encodeReport, decodeReport, encodeProposal, decodeProposal, markOf, formFor, formOf, checkFor, checkOf}
 use Rattle.records.specs.declared.Proposal.{Proposal}
 use Rattle.rules.specs.State.{None, State, zeros, nothing}
@@ -23,7 +23,7 @@ use Rattle.rules.specs.Rules.{proposalRule}
 use Rattle.rules.specs.Refusals.{slotWithin, wellFormed, unreadable, eventOf, wrongSender, wrongKind, wrongNumber, withoutSeat, strayUsed}
 use Rattle.rules.specs.Refusals.{notAbove, usedAhead, proposalChecks, accepting, actOf, stepOf}
 use Rattle.runs.specs.World.{netBy, Item, SentView, viewsIn, World, atFirst, WorldEvent, report, delivery, loss, answered, withLink, idle, reportAnswer, proposalAnswer, next, run, at}
-use Rattle.settling.specs.Statement.{onWay, countOf, deliveries}
+use Rattle.settling.specs.Statement.{onWay, deliveries}
 
 -- an office that does not start fresh, and a proposal that is on the link from its sender at first
 pub record NotFresh : Type 0 where
@@ -194,7 +194,7 @@ unfolding bit bytesAll allb anyb largest sum tab upd has serves unionOf withoutO
     markOf formFor formOf checkFor checkOf andThen fresh netAfter withNet seated opened noticeOf opens nextNumber ownProposal proposed receives proposesFast received
     matching matchingSlow aboveOwn usesOwn slowCalled joinedNumber slowNumber proposesSlow slowTest agreesKind isNone agreed startOf viewOf
     concluded agreementTest tests reportRule proposalRule slotWithin wellFormed unreadable eventOf wrongSender wrongKind wrongNumber withoutSeat
-    strayUsed notAbove usedAhead proposalChecks accepting actOf stepOf atFirst answered withLink idle reportAnswer proposalAnswer next runs netBy deliveries
+    strayUsed notAbove usedAhead proposalChecks accepting actOf stepOf atFirst answered withLink idle reportAnswer proposalAnswer next runs netBy countOf deliveries
     everywhere holds fails reportedLast answersTo pointOf
 summary p =
     let t = pointOf p in

@@ -9,7 +9,7 @@ use lib.Dec.{eqb, ltb}
 use Rattle.laws.specs.Lists.{Every}
 use Rattle.laws.specs.Fin.{sum}
 use Rattle.laws.specs.Upd.{ifb}
-use Rattle.seats.specs.Seats.{serves}
+use Rattle.seats.specs.Seats.{serves, countOf}
 use Rattle.records.specs.declared.Report.{Report}
 use Rattle.records.specs.declared.View.{View}
 use Rattle.rules.specs.State.{State}
@@ -24,10 +24,6 @@ between A i j = serves A i && serves A j && not (eqb i j)
 -- proposals on their way between the offices of A, counted once for each link
 abbrev pub onWay : ℕ → (ℕ → ℕ → List Item) → ℕ
 onWay A link = sum 16 (λ i. sum 16 (λ j. ifb (between A i j) (length (link i j)) 0))
-
--- the number of the offices of A
-abbrev pub countOf : ℕ → ℕ
-countOf A = sum 16 (λ i. ifb (serves A i) 1 0)
 
 -- the deliveries between offices of A in a list of events from the world w on
 abbrev pub deliveryOne : ℕ → World → WorldEvent → ℕ
@@ -91,7 +87,7 @@ module _ (A : ℕ) (states : ℕ → State) (links : ℕ → ℕ → List Item) 
     -- they send no more
     pub no-more : (m i : ℕ) (r : Result) (e : WorldEvent) → n ≤ m → OfA A i → Nth es m e → Gives (at first es m) e i r → r .written ≡ []
 
-  -- the settling rule
+  -- the settling rule: P is what is on its way at T, k the number of the offices of A
   abbrev pub Settles : Type 0
   Settles = (last : ℕ → ℕ) (T : ℕ) → Assumed last → AllReported last T
       → (deliveries A (at first es T) (drop T es)

@@ -1,7 +1,9 @@
 use borrow.Author.Needs.{needs}
 use mathlib.Core.Path.{_≡_, sym, _∙_}
+use mathlib.Core.Bool.{true}
 use borrow.Author.Tests.{not-true, not-false}
 use lib.ListN.{length}
+use Rattle.seats.specs.Seats.{serves}
 use Rattle.rules.specs.Rules.{netAfter, reportRule}
 use Rattle.rules.specs.Refusals.{aReport, limit}
 use Rattle.rules.proofs.Steps.{well-facts}
@@ -10,7 +12,7 @@ use Rattle.row.specs.Changes.{withNetSet}
 use Rattle.parts.specs.Parts.{fastRound}
 use Rattle.parts.proofs.Bounding.{well-bounded, net-bounded}
 use Rattle.parts.proofs.Dids.{did-as, did-after, did-quiet}
-use Rattle.membership.proofs.Outcomes.{event-fits, net-after, report-left, report-seated}
+use Rattle.membership.proofs.Outcomes.{event-fits, net-after, net-seated, report-left, report-seated}
 use Rattle.membership.proofs.act_on_report.Statement.{statement}
 use Rattle.membership.proofs.act_on_report.Tie as tie
 
@@ -19,10 +21,13 @@ changed : (c : tie.After-without) → c .without .result .bits ≡ netAfter (sta
 changed c = let a = c .before .before .before .before .before .before .args in net-after (stateOf (a .s .now)) (a .r) _ _ _ (c .before .before .net .ensures) (c .before .union .ensures) (c .without .ensures)
 
 -- the office has a seat in it
+seats-own : (c : tie.Else1) → serves (c .before .before .before .before .before .before .before .before .without .result .bits) (c .before .before .before .before .before .before .own .result) ≡ true
+seats-own c = sym (c .before .serves .ensures) ∙ not-false _ (c .if1 .left)
+
 seat : (c : tie.Else1) → fastRound (withNetSet (c .before .before .before .before .before .before .before .before .without .result) (stateOf (c .before .before .before .before .before .before .before .before .before .before .before .before .before .before .args .s .now))) ≡ reportRule (stateOf (c .before .before .before .before .before .before .before .before .before .before .before .before .before .before .args .s .now)) (c .before .before .before .before .before .before .before .before .before .before .before .before .before .before .args .r)
 seat c =
     let a = c .before .before .before .before .before .before .before .before .before .before .before .before .before .before .args in
-    report-seated (stateOf (a .s .now)) (a .r) _ _ (changed (c .before .before .before .before .before .before .before .before)) (c .before .before .before .before .before .before .own .ensures) (sym (c .before .serves .ensures) ∙ not-false _ (c .if1 .left))
+    report-seated (stateOf (a .s .now)) (a .r) _ _ (changed (c .before .before .before .before .before .before .before .before)) (c .before .before .before .before .before .before .own .ensures) (seats-own c)
 
 net-requires : tie.Need-net-requires
 net-requires c κs = search needs
@@ -61,6 +66,7 @@ fast-round-requires c κs =
       d .row,
       rw (d .is) (net-bounded limit s (well-bounded s (b .pre .1)) net),
       rw (d .is) (event-fits fastRound s (withNetSet net s) (aReport (a .r)) (length (a .out .now)) (seat (c .before .before)) (b .pre .2)),
+      rw (d .is) (net-seated s (a .r) net _ (changed (c .before .before .before .before .before .before .before .before .before .before)) (c .before .before .before .before .before .before .before .before .own .ensures) (seats-own (c .before .before))),
     )
 
 same-length-2 : tie.Need-same-length-2

@@ -1,9 +1,12 @@
 use native.Mathlib.Omega.{arith}
 use borrow.Author.Needs.{needs}
+use mathlib.Core.Path.{_≡_, _∙_}
+use mathlib.Core.Bool.{true}
 use Prim.Native.Nat.{_+_}
 use Rattle.rules.specs.State.{State}
-use Rattle.rules.specs.Rules.{Outcome, andThen, opens, proposesFast, tests}
+use Rattle.rules.specs.Rules.{Outcome, andThen, seated, opens, proposesFast, tests}
 use Rattle.rules.specs.Refusals.{limit}
+use Rattle.rules.proofs.Recipients.{opens-seated}
 use Rattle.row.specs.Row.{stateOf}
 use Rattle.parts.specs.Bounds.{early, reach, Bounded}
 use Rattle.parts.specs.Did.{Fits}
@@ -19,6 +22,9 @@ later s = andThen (proposesFast s) tests
 noticed-bounded : (c : tie.After-opens) → Bounded (limit + 1) (stateOf (c .opens .last .0))
 noticed-bounded c = rw (c .opens .ensures .is) (opens-bounded limit _ (c .before .before .before .before .before .pre .1))
 
+noticed-seated : (c : tie.After-opens) → seated (stateOf (c .opens .last .0)) ≡ true
+noticed-seated c = rw (c .opens .ensures .is) (opens-seated _ ∙ c .before .before .before .before .before .pre .3)
+
 room : (c : tie.After-opens) → Fits later (c .opens .last .0) (c .opens .last .1 .0) (c .opens .result)
 room c =
     let a = c .before .before .before .before .before .args in
@@ -33,7 +39,7 @@ opens-requires c κs =
 proposes-fast-requires : tie.Need-proposes-fast-requires
 proposes-fast-requires c κs =
     let d = c .before .before .before .before .before .before .opens in
-    (d .ensures .row, bounded-le (limit + 1) _ (noticed-bounded (c .before .before .before .before .before .before)) reach (omega arith), fits-first proposesFast tests (d .last .0) (d .last .1 .0) (d .result) (room (c .before .before .before .before .before .before)))
+    (d .ensures .row, bounded-le (limit + 1) _ (noticed-bounded (c .before .before .before .before .before .before)) reach (omega arith), fits-first proposesFast tests (d .last .0) (d .last .1 .0) (d .result) (room (c .before .before .before .before .before .before)), noticed-seated (c .before .before .before .before .before .before))
 
 tests-requires : tie.Need-tests-requires
 tests-requires c κs =

@@ -6,6 +6,7 @@ use borrow.Author.Tests.{not-true, not-false}
 use Rattle.row.specs.Row.{stateOf}
 use Rattle.rules.specs.State.{Fast}
 use Rattle.rules.specs.Rules.{proposal, nextNumber, ownProposal, proposesFast}
+use Rattle.rules.proofs.Recipients.{own-seated}
 use Rattle.parts.specs.Did.{Did}
 use Rattle.parts.proofs.Dids.{did-as, did-quiet, did-wrote, did-end}
 use Rattle.parts.proofs.Made.{own-same, own-sender, fast-alone, fast-written}
@@ -32,9 +33,11 @@ keep-own-requires c κs = let b = c .before .before .before .before .before .bef
 
 has-recipient-requires : tie.Need-has-recipient-requires
 has-recipient-requires c κs =
-    let e = own-sender _ _ _ _ (made (c .before .before .before .before)) in
-    let l = c .before .before .before .before .before .before .before .before .before .pre .1 .own in
-    omega arith
+    let m = made (c .before .before .before .before) in
+    let e = own-sender _ _ _ _ m in
+    let b = c .before .before .before .before .before .before .before .before .before .pre in
+    let l = b .1 .own in
+    (omega arith, own-seated _ _ _ _ m (b .3))
 
 same-length : tie.Need-same-length
 same-length c = search needs

@@ -17,28 +17,28 @@ use Rattle.seats.specs.Seats.{has, serves, officesOf, unionOf}
 use Rattle.seats.proofs.Laws.{has-union, has-and, has-offices, offices-lt, same-seats, has-high}
 
 -- masks: one, two, four, eight places of each block of four times as many
-abbrev ones : ℕ
-ones = 0x1111_1111_1111_1111
+abbrev inFours : ℕ
+inFours = 0x1111_1111_1111_1111
 
-abbrev twos : ℕ
-twos = 0x0303_0303_0303_0303
+abbrev inEights : ℕ
+inEights = 0x0303_0303_0303_0303
 
-abbrev fours : ℕ
-fours = 0x000f_000f_000f_000f
+abbrev inSixteens : ℕ
+inSixteens = 0x000f_000f_000f_000f
 
-abbrev eights : ℕ
-eights = 0x0000_00ff_0000_00ff
+abbrev inHalves : ℕ
+inHalves = 0x0000_00ff_0000_00ff
 
 -- the place of an office's lowest seat: whether any of its four seats is in the set
-unfoldable pub lowest : ℕ → ℕ
-lowest x = bitAnd (bitOr (bitOr (bitOr x (x / 2)) (x / 4)) (x / 8)) ones
+unfoldable pub spread : ℕ → ℕ
+spread x = bitAnd (bitOr (bitOr (bitOr x (x / 2)) (x / 4)) (x / 8)) inFours
 
 -- what stands k places up comes down, and a mask keeps what counts
 unfoldable pub fold : ℕ → ℕ → ℕ → ℕ
 fold k m y = bitAnd (bitOr y (y / 2 ^ k)) m
 
 unfoldable pub gathered : ℕ → ℕ
-gathered x = fold 24 0xffff (fold 12 eights (fold 6 fours (fold 3 twos (lowest x))))
+gathered x = fold 24 0xffff (fold 12 inHalves (fold 6 inSixteens (fold 3 inEights (spread x))))
 
 has-or : (x y s : ℕ) → has (bitOr x y) s ≡ has x s || has y s
 unfolding unionOf
@@ -85,36 +85,36 @@ fold-within : (k m y : ℕ) → Within m (fold k m y)
 unfolding fold
 fold-within k m y = masked (bitOr y (y / 2 ^ k)) m
 
-lowest-within : (x : ℕ) → Within ones (lowest x)
-unfolding lowest
-lowest-within x = masked (bitOr (bitOr (bitOr x (x / 2)) (x / 4)) (x / 8)) ones
+spread-within : (x : ℕ) → Within inFours (spread x)
+unfolding spread
+spread-within x = masked (bitOr (bitOr (bitOr x (x / 2)) (x / 4)) (x / 8)) inFours
 
-every-fourth : (o : ℕ) → o < 16 → has ones (4 * o) ≡ true
+every-fourth : (o : ℕ) → o < 16 → has inFours (4 * o) ≡ true
 unfolding allb has bit
-every-fourth = allb-out 16 (λ k. has ones (4 * k)) refl
+every-fourth = allb-out 16 (λ k. has inFours (4 * k)) refl
 
-lowest-at : (x o : ℕ) → o < 16 → has (lowest x) (place 1 o) ≡ serves x o
-unfolding lowest serves
-lowest-at x o h =
+spread-at : (x o : ℕ) → o < 16 → has (spread x) (place 1 o) ≡ serves x o
+unfolding spread serves
+spread-at x o h =
     let q : place 1 o ≡ 4 * o = omega arith in
     rw (q, has-and, every-fourth o h, and-true, has-or, has-shift 3, has-or, has-shift 2, has-or, has-shift 1, add-comm 1, add-comm 2, add-comm 3)
 
 gathered-at : (x o : ℕ) → o < 16 → has (gathered x) o ≡ serves x o
 unfolding gathered allb has bit
 gathered-at x o h =
-    let a : ℕ = lowest x in
-    let b : ℕ = fold 3 twos a in
-    let c : ℕ = fold 6 fours b in
-    let d : ℕ = fold 12 eights c in
-    level 24 eights 0xffff (place 8) (λ k. k) refl d o (fold-within 12 eights c) h
-    ∙ level 12 fours eights (place 4) (place 8) refl c o (fold-within 6 fours b) h
-    ∙ level 6 twos fours (place 2) (place 4) refl b o (fold-within 3 twos a) h
-    ∙ level 3 ones twos (place 1) (place 2) refl a o (lowest-within x) h
-    ∙ lowest-at x o h
+    let a : ℕ = spread x in
+    let b : ℕ = fold 3 inEights a in
+    let c : ℕ = fold 6 inSixteens b in
+    let d : ℕ = fold 12 inHalves c in
+    level 24 inHalves 0xffff (place 8) (λ k. k) refl d o (fold-within 12 inHalves c) h
+    ∙ level 12 inSixteens inHalves (place 4) (place 8) refl c o (fold-within 6 inSixteens b) h
+    ∙ level 6 inEights inSixteens (place 2) (place 4) refl b o (fold-within 3 inEights a) h
+    ∙ level 3 inFours inEights (place 1) (place 2) refl a o (spread-within x) h
+    ∙ spread-at x o h
 
 gathered-lt : (x : ℕ) → gathered x < 2 ^ 16
 unfolding gathered fold
-gathered-lt x = let d : ℕ = fold 12 eights (fold 6 fours (fold 3 twos (lowest x))) in mask-lt (bitOr d (d / 2 ^ 24)) 16
+gathered-lt x = let d : ℕ = fold 12 inHalves (fold 6 inSixteens (fold 3 inEights (spread x))) in mask-lt (bitOr d (d / 2 ^ 24)) 16
 
 pub gathers : (x : ℕ) → gathered x ≡ officesOf x
 gathers x =

@@ -1,0 +1,9 @@
+-- The lowest below n that passes a test.
+use mathlib.Core.Bool.{Bool}
+use Prim.Native.Nat.{ℕ, zero, suc}
+use Rattle.laws.specs.Upd.{ifb}
+
+-- it stops at the first; n where none passes
+unfoldable pub lowestBelow : ℕ → (ℕ → Bool) → ℕ
+lowestBelow zero p = 0
+lowestBelow (suc n) p = ifb (p 0) 0 (suc (lowestBelow n (λ k. p (suc k))))
