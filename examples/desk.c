@@ -1,5 +1,5 @@
 /* The questions of the desk program: is this a report or proposal that can be handed in, which offices does a set of seats
- * concern, and how many are they? Link with libcapi.a. */
+ * concern, and how many are they? Link with libroom.a. */
 #include "room.h"
 
 #include <stdio.h>

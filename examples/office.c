@@ -1,5 +1,5 @@
 /* A small office: office 0 makes its state, is handed the records of an ordinary morning, and says in words what it is told to
- * send. Link with libcapi.a. */
+ * send. Link with libroom.a. */
 #include "room.h"
 
 #include <stdio.h>

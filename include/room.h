@@ -1,4 +1,4 @@
-/* What a C program asks of the room server, with plain numbers and buffers. Link with libcapi.a.
+/* What a C program asks of the room server, with plain numbers and buffers. Link with libroom.a.
  *
  * Nothing checks the pointers: none may be NULL, even where its length is 0; each must point at as many elements as the
  * length beside it says; a `uint32_t *` must be aligned for uint32_t; no two buffers of one call may overlap; and no other

@@ -1,4 +1,4 @@
-// The calls of libcapi.a that make and change a state, beside the model: every answer, every word and every byte. Each case is a
+// The calls for C that make and change a state, beside the model: every answer, every word and every byte. Each case is a
 // kind of input; it passes when the two agree on all of its inputs.
 #[allow(dead_code)]
 #[path = "common/model.rs"]
@@ -15,7 +15,7 @@ use play::{Habits, Play};
 use random::Random;
 use rows::WORDS;
 
-#[link(name = "capi", kind = "static")]
+#[link(name = "room", kind = "static")]
 extern "C" {
     fn room_fresh(office: u8, state: *mut u32, words: usize) -> u8;
     fn room_step(state: *mut u32, words: usize, record: *const u8, length: usize, out: *mut u8, room: usize) -> u32;

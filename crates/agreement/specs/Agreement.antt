@@ -2,7 +2,7 @@
 use mathlib.Core.Bool.{Bool, _&&_, _||_, not}
 use Prim.Native.Nat.{ℕ}
 use lib.Dec.{eqb}
-use Rattle.seats.specs.Seats.{serves}
+use Rattle.offices.specs.Offices.{serves}
 use Rattle.rules.specs.State.{Slot, State, slow, storedAt}
 use Rattle.rules.specs.Rules.{agreesIn}
 

@@ -1,9 +1,10 @@
 // The agreement test, on the row of an office; inner to the layer of the step.
+use new_view::view_of;
+use offices::serves;
 use records::SLOW;
 use round_end::conclude;
-use round_end::view_of;
 use seats::SeatSet;
-use writers::write_view;
+use views::write_view;
 ghost use mathlib.Core.Path.{_≡_};
 ghost use Prim.Native.Nat.{_<_};
 ghost use Rattle.rules.specs.Rules.{agreed, agreementTest};
@@ -17,7 +18,7 @@ fn fails(s: &[u32], o: usize, kind: u8, number: u32, net: SeatSet) -> bool
     requires { ⌜ Row (now s) × (o < 16) ⌝ }
     ensures { λ r. ⌜ r ≡ failsAt kind number (net .bits) (stateOf (now (s .entry))) o ⌝ }
 {
-    if !net.serves(o as u8) {
+    if !serves(net, o as u8) {
         return false;
     }
     if !row::stored_present(s, o) {

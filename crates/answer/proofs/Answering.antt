@@ -14,7 +14,7 @@ use Rattle.row.specs.Row.{stateOf}
 use Rattle.lines.specs.Lines.{lineFor, goesOn}
 use Rattle.answer.specs.Held.{Handed}
 use Rattle.answer.specs.Answered.{Answered}
-use Rattle.buffers.specs.declared.Place.{Place}
+use Rattle.input_buffer.specs.declared.Place.{Place}
 use Rattle.step_answer.specs.declared.Answer.{Answer}
 use Rattle.places.specs.Places.{Told}
 

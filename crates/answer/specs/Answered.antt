@@ -8,8 +8,8 @@ use Rattle.rules.specs.Refusals.{stepOf}
 use Rattle.row.specs.Row.{stateOf}
 use Rattle.lines.specs.Lines.{lineFor, goesOn}
 use Rattle.answer.specs.Held.{Sound}
-use Rattle.buffers.specs.Place.{unwrittenOf}
-use Rattle.buffers.specs.declared.Place.{Place}
+use Rattle.input_buffer.specs.Place.{unwrittenOf}
+use Rattle.input_buffer.specs.declared.Place.{Place}
 use Rattle.answer.specs.declared.Acted.{Acted}
 
 -- the record b is answered by the step, with an output of 182 bytes: its line stands behind what is unwritten

@@ -1,7 +1,7 @@
 // The record in front is answered by the step, and its line stands behind what is unwritten; inner to the program.
-use buffers::Place;
-use buffers::front;
 use held::hand;
+use input_buffer::Place;
+use input_buffer::front;
 use lines::goes_on;
 use places::told;
 use row::view_number;
@@ -9,7 +9,7 @@ ghost use mathlib.Core.Path.{_≡_};
 ghost use Prim.Native.Nat.{_+_, _<_, _≤_, _^_};
 ghost use lib.ListN.{length};
 ghost use Rattle.lines.specs.Lines.{frontOf};
-ghost use Rattle.buffers.specs.Place.{Within, windowOf};
+ghost use Rattle.input_buffer.specs.Place.{Within, windowOf};
 ghost use Rattle.answer.specs.Held.{Sound};
 ghost use Rattle.answer.specs.Answered.{Answered};
 

@@ -11,10 +11,10 @@ use Rattle.laws.specs.Upd.{ifb}
 use Rattle.row.specs.Row.{stateOf}
 use Rattle.lines.specs.Lines.{linesOf, textOf}
 use Rattle.answer.specs.Held.{Sound, StateMade}
-use Rattle.buffers.specs.Place.{windowOf, unwrittenOf}
+use Rattle.input_buffer.specs.Place.{windowOf, unwrittenOf}
 use Rattle.turn.specs.Turn.{Turns}
 use Rattle.feed.specs.Whole.{Stand, Run, begun, turned, Ran}
-use Rattle.buffers.specs.declared.Place.{Place}
+use Rattle.input_buffer.specs.declared.Place.{Place}
 use Rattle.turn.specs.declared.Turned.{Turned}
 
 -- what is due at a place, where f is still to come

@@ -1,8 +1,8 @@
 // The program: the records of standard input through the step, a line on standard output for each.
 use answer::held::make;
-use buffers::Place;
-use buffers::due;
-use buffers::flush;
+use input_buffer::Place;
+use output_buffer::due;
+use output_buffer::flush;
 use turn::turn;
 ghost use mathlib.Core.Path.{_≡_};
 ghost use Prim.Native.Nat.{_-_, _<_, _≤_};

@@ -8,7 +8,8 @@ use Rattle.laws.specs.Fin.{allb, anyb, largest}
 use Rattle.laws.specs.Tab.{tab}
 use Rattle.laws.specs.Big.{bytesAll}
 use Rattle.laws.specs.Bit.{bit}
-use Rattle.seats.specs.Seats.{has, unionOf, withoutOf, serves}
+use Rattle.seats.specs.Seats.{has, unionOf, withoutOf}
+use Rattle.offices.specs.Offices.{serves}
 use Rattle.records.specs.Layout.{encodeReport, decodeReport, encodeProposal, decodeProposal, encodeNotice, encodeView, markOf, formFor, formOf}
 use Rattle.records.specs.Layout.{checkFor, checkOf}
 use Rattle.run_reader.specs.Run.{runCheck, runSize, runFirst, runRest}
@@ -18,7 +19,8 @@ use Rattle.rules.specs.Rules.{joinedNumber, slowNumber, proposesSlow, slowTest,
 use Rattle.rules.specs.Rules.{agreementTest, tests, reportRule, proposalRule}
 use Rattle.rules.specs.Refusals.{slotWithin, wellFormed, unreadable, eventOf, wrongSender, wrongKind, wrongNumber, withoutSeat}
 use Rattle.rules.specs.Refusals.{strayUsed, notAbove, usedAhead, proposalChecks, accepting, actOf, stepOf, allBytes, madeOf}
-use Rattle.text.specs.Text.{decimalIn, decimal, traceOf, lineOf}
+use Rattle.digits.specs.Digits.{decimalIn, decimal}
+use Rattle.text.specs.Text.{traceOf, lineOf}
 use Rattle.lines.specs.Lines.{frontOf, behindOf, lineFor, goesOn, linesIn, linesOf, noOffice, textOf}
 
 -- a report of joining seats, and P(fast, 1, 1, 0, 0) with members {0, 4}

@@ -1,9 +1,10 @@
 // What an accepted event does, inner to the layer of the step: the rules on the row of words of one office in one room, changed in place,
 // and the records written behind one another.
 use agreement::agreement_test;
+use fast_proposal::proposes_fast;
+use offices::serves;
 use parts::opens;
 use parts::receive;
-use proposing::proposes_fast;
 use records::Proposal;
 use records::Report;
 use slow_test::slow_test;
@@ -44,7 +45,7 @@ pub fn act_on_report(s: &mut [u32], r: Report, out: &mut [u8]) -> usize
     let net = old.union(r.joining).without(r.leaving);
     let own = row::own(s);
     row_changes::set_net(s, net);
-    if !net.serves(own) {
+    if !serves(net, own) {
         return 0;
     }
     fast_round(s, out)

@@ -1,8 +1,8 @@
 // A proposal arrives, the start number rises.
 use crate::numbers::larger;
+use notices::write_notice;
 use records::Notice;
 use records::Proposal;
-use writers::write_notice;
 ghost use mathlib.Core.Path.{_≡_};
 ghost use Prim.Native.Nat.{_<_};
 ghost use Rattle.rules.specs.Rules.{opens};
@@ -18,7 +18,7 @@ pub fn receive(s: &mut [u32], p: Proposal)
     ensures { λ _. ⌜ Changed (receiving p) (now (s .entry)) (now (s .exit)) ⌝ }
 {
     let o = p.sender as usize;
-    row_changes::put_stored(s, o, p);
+    row_slots::put_stored(s, o, p);
     row_changes::set_accepted(s, o, p.number);
 }
 

@@ -8,10 +8,11 @@ use native.Mathlib.Omega.{arith}
 use lib.ListN.{length, take}
 use Rattle.laws.specs.Upd.{ifb}
 use Rattle.text.specs.Text.{lineOf}
-use Rattle.text.specs.Put.{Put}
-use Rattle.buffers.specs.Place.{unwrittenOf, Sent}
-use Rattle.buffers.specs.declared.Place.{Place}
-use Rattle.buffers.proofs.Places.{put-behind}
+use Rattle.digits.specs.Put.{Put}
+use Rattle.input_buffer.specs.Place.{unwrittenOf}
+use Rattle.input_buffer.specs.declared.Place.{Place}
+use Rattle.output_buffer.specs.Room.{Sent}
+use Rattle.output_buffer.proofs.Room.{put-behind}
 use Rattle.step_answer.specs.declared.Answer.{Answer}
 use Rattle.places.specs.Places.{sentFrom, Emptied, Told}
 

@@ -6,8 +6,9 @@ use Prim.Native.Nat.{ℕ, _+_, _-_, _≤_}
 use lib.ListN.{take}
 use Rattle.laws.specs.Upd.{ifb}
 use Rattle.text.specs.Text.{lineOf}
-use Rattle.buffers.specs.Place.{unwrittenOf, Sent}
-use Rattle.buffers.specs.declared.Place.{Place}
+use Rattle.input_buffer.specs.Place.{unwrittenOf}
+use Rattle.input_buffer.specs.declared.Place.{Place}
+use Rattle.output_buffer.specs.Room.{Sent}
 use Rattle.step_answer.specs.declared.Answer.{Answer}
 
 -- the place after a write of some of the unwritten bytes

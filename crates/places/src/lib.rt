@@ -1,6 +1,6 @@
 // Where the program stands once it has written, and once it has a line to write; inner to the program.
-use buffers::Place;
-use buffers::make_room;
+use input_buffer::Place;
+use output_buffer::make_room;
 ghost use mathlib.Core.Path.{_≡_};
 ghost use Prim.Native.Nat.{_+_, _<_, _≤_, _^_};
 ghost use lib.ListN.{length};

@@ -114,3 +114,7 @@ checkOf b = checkFor (formOf b .length) b
 -- the two checks on a lone record, on its own mark m and its own length n
 unfoldable pub checkOwn : List ℕ → ℕ → List ℕ → ℕ
 checkOwn m n b = checkFor (ifb (eqb (markOf b) (valueOf m)) n 0) b
+
+-- the bytes of an accepted record; none of a refused one
+abbrev pub accepted : ℕ → List ℕ → List ℕ
+accepted refusal b = ifb (eqb refusal 0) b []

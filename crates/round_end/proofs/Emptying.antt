@@ -12,7 +12,7 @@ use Rattle.laws.specs.Tab.{tab}
 use Rattle.laws.proofs.Tab.{getD-tab, tab-ext, filled}
 use Rattle.laws.specs.Upd.{ifb, upd}
 use Rattle.laws.proofs.Upd.{upd-cases}
-use Rattle.seats.specs.Seats.{serves}
+use Rattle.offices.specs.Offices.{serves}
 use Rattle.records.specs.declared.View.{View}
 use Rattle.rules.specs.State.{None, Slot, State, nothing, storedAt, usedAt, numberIn}
 use Rattle.rules.specs.Rules.{viewOf, concluded}

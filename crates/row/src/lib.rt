@@ -1,5 +1,5 @@
 // The state of an office in a row of words that the caller lends; inner to the layer of the step. Contracts speak of the record State;
-// no function above this crate, `row_stores`, `row_changes` and `row_checks` names a place of the row.
+// no function outside the crates whose names begin with `row` names a place of the row.
 pub mod places;
 mod readers;
 

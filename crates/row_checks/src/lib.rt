@@ -1,7 +1,6 @@
-// Whether words are a row, and check 2 of the state that it holds; inner to the layer of the step.
+// Check 2 of the state that words hold, and whether all its numbers are low; inner to the layer of the step.
 use row::LIMIT;
 use row::LOW;
-use row::WORDS;
 use row::places;
 use row::stored_present;
 ghost use mathlib.Core.Path.{_≡_};
@@ -11,15 +10,18 @@ ghost use lib.ListN.{length, getD};
 ghost use Rattle.laws.specs.Fin.{allb};
 ghost use Rattle.rules.specs.State.{storedAt};
 ghost use Rattle.rules.specs.Refusals.{within, slotWithin, wellFormed};
-ghost use Rattle.row.specs.Row.{Row, stateOf, isRow, soundRow, lowRow, low, startPlace, numbersCount};
+ghost use Rattle.row.specs.Row.{Row, stateOf, soundRow, lowRow, low, startPlace, numbersCount};
 
 const LAST_OFFICE: u32 = 15;
+
+// How many numbers stand before those of what is stored.
+const OWN_NUMBERS: usize = places::STORED_NUMBERS - places::START;
 
 // Check 2 with its row: the length, presence and mode words, and the state that they hold.
 pub fn is_sound(s: &[u32]) -> bool
     ensures { λ r. ⌜ r ≡ soundRow (now (s .entry)) ⌝ }
 {
-    if is_row(s) {
+    if row_form::is_row(s) {
         return is_well_formed(s);
     }
     false
@@ -29,39 +31,17 @@ pub fn is_sound(s: &[u32]) -> bool
 pub fn is_low(s: &[u32]) -> bool
     ensures { λ r. ⌜ r ≡ lowRow (now (s .entry)) ⌝ }
 {
-    if is_row(s) {
+    if row_form::is_row(s) {
         return (s[places::OWN] <= LAST_OFFICE) & (all_numbers(s) <= LOW);
     }
     false
-}
-
-fn is_row(s: &[u32]) -> bool
-    ensures { λ r. ⌜ r ≡ isRow (now (s .entry)) ⌝ }
-{
-    if s.len() != WORDS {
-        return false;
-    }
-    let mut ok = true;
-    let mut o: usize = 0;
-    while o < 16 {
-        ok = (s[places::SLOTS + places::SLOT * o] <= 1) & ok;
-        o += 1;
-    }
-    (s[places::MODE] <= 2) & ok
 }
 
 fn is_well_formed(s: &[u32]) -> bool
     requires { ⌜ Row (now s) ⌝ }
     ensures { λ r. ⌜ r ≡ wellFormed (stateOf (now (s .entry))) ⌝ }
 {
-    (s[places::OWN] <= LAST_OFFICE)
-        & (s[places::VIEW] <= LIMIT)
-        & (s[places::START] <= LIMIT)
-        & (s[places::NUMBER] <= LIMIT)
-        & are_within(s, places::STARTS)
-        & are_within(s, places::ACCEPTED)
-        & are_within(s, places::USED)
-        & slots_within(s)
+    (s[places::OWN] <= LAST_OFFICE) & are_within(s, places::START, OWN_NUMBERS) & slots_within(s)
 }
 
 // The digits of all numbers together: at most LOW, which is all ones, just where each number is.
@@ -78,14 +58,14 @@ fn all_numbers(s: &[u32]) -> u32
     all
 }
 
-// Whether the sixteen numbers from a place on are at most L.
-fn are_within(s: &[u32], at: usize) -> bool
-    requires { ⌜ at + 16 ≤ length (now s) ⌝ }
-    ensures { λ r. ⌜ r ≡ allb 16 (λ k. within (getD (now (s .entry)) (at + k) 0)) ⌝ }
+// Whether the next n numbers from a place on are at most L.
+fn are_within(s: &[u32], at: usize, n: usize) -> bool
+    requires { ⌜ at + n ≤ length (now s) ⌝ }
+    ensures { λ r. ⌜ r ≡ allb n (λ k. within (getD (now (s .entry)) (at + k) 0)) ⌝ }
 {
     let mut ok = true;
     let mut k: usize = 0;
-    while k < 16 {
+    while k < n {
         ok = (s[at + k] <= LIMIT) & ok;
         k += 1;
     }
@@ -97,10 +77,7 @@ fn slot_within(s: &[u32], o: usize) -> bool
     ensures { λ r. ⌜ r ≡ slotWithin (storedAt (stateOf (now (s .entry))) o) ⌝ }
 {
     let at = places::STORED_NUMBERS + places::STORED * o;
-    !stored_present(s, o)
-        | ((s[at] <= LIMIT)
-            & (s[at + places::STORED_NUMBER] <= LIMIT)
-            & are_within(s, at + places::STORED_USED))
+    !stored_present(s, o) | are_within(s, at, places::STORED)
 }
 
 fn slots_within(s: &[u32]) -> bool

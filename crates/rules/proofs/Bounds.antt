@@ -8,7 +8,7 @@ use Rattle.laws.specs.Fin.{largest}
 use Rattle.laws.proofs.Fin.{largest-below, if-cases}
 use Rattle.laws.specs.Upd.{ifb, upd}
 use Rattle.laws.proofs.Upd.{upd-cases}
-use Rattle.seats.specs.Seats.{serves}
+use Rattle.offices.specs.Offices.{serves}
 use Rattle.records.specs.declared.Report.{Report}
 use Rattle.records.specs.declared.Proposal.{Proposal}
 use Rattle.rules.specs.State.{Mode, None, Fast, Slow, Slot, State, keeping, storedAt, usedFor, numberIn}

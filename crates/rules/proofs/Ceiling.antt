@@ -11,7 +11,7 @@ use Rattle.laws.proofs.Fin.{if-cases, if-le, true-false}
 use Rattle.laws.proofs.Tab.{getD-tab}
 use Rattle.laws.specs.Upd.{ifb, upd}
 use Rattle.laws.proofs.Upd.{upd-cases}
-use Rattle.seats.specs.Seats.{serves}
+use Rattle.offices.specs.Offices.{serves}
 use Rattle.records.specs.declared.Proposal.{Proposal}
 use Rattle.rules.specs.State.{Mode, Fast, Slow, Slot, State, keeping, storedAt, acceptedAt, usedAt, numberIn}
 use Rattle.rules.specs.Rules.{Written, Outcome, nothingWritten, andThen, withNet, opened, opens, ownProposal, proposed, nextNumber, slowNumber, proposesFast}

@@ -9,8 +9,8 @@ use borrow.Author.Tests.{lt-ltb, le-ltb}
 use Rattle.laws.specs.Fin.{sum}
 use Rattle.laws.specs.Upd.{ifb}
 use Rattle.laws.proofs.Fin.{any-count}
-use Rattle.seats.specs.Seats.{serves, countOf}
-use Rattle.seats.proofs.Offices.{others-count}
+use Rattle.offices.specs.Offices.{serves, countOf}
+use Rattle.offices.proofs.Counts.{others-count}
 use Rattle.records.specs.declared.Proposal.{Proposal}
 use Rattle.rules.specs.State.{Mode, State}
 use Rattle.rules.specs.Rules.{seated, opened, opens, ownProposal, receives, hasRecipient}

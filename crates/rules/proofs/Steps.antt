@@ -12,7 +12,7 @@ use borrow.Author.Tests.{ltb-false, leb-false, eqb-true, not-false, le-ltb, lt-l
 use Rattle.laws.proofs.Fin.{anyb-none, none-anyb, as-facts, or-cases, true-false}
 use Rattle.laws.proofs.Tab.{getD-tab}
 use Rattle.laws.specs.Upd.{ifb}
-use Rattle.seats.specs.Seats.{serves}
+use Rattle.offices.specs.Offices.{serves}
 use Rattle.records.specs.Layout.{checkOf}
 use Rattle.records.specs.declared.Proposal.{Proposal}
 use Rattle.rules.specs.State.{Slot, State, fast, slow, storedAt, acceptedAt, usedAt, usedFor}

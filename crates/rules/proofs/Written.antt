@@ -10,7 +10,7 @@ use Rattle.laws.specs.Lists.{Every, none, more}
 use Rattle.laws.proofs.Lists.{every-append}
 use Rattle.laws.proofs.Fin.{if-cases}
 use Rattle.laws.proofs.Tab.{getD-tab}
-use Rattle.seats.specs.Seats.{serves}
+use Rattle.offices.specs.Offices.{serves}
 use Rattle.records.specs.declared.Notice.{Notice}
 use Rattle.records.specs.declared.Proposal.{Proposal}
 use Rattle.records.specs.declared.View.{View}

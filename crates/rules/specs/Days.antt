@@ -7,7 +7,8 @@ use Rattle.laws.specs.Fin.{allb, anyb, largest}
 use Rattle.laws.specs.Tab.{tab}
 use Rattle.laws.specs.Big.{bytesAll}
 use Rattle.laws.specs.Bit.{bit}
-use Rattle.seats.specs.Seats.{has, unionOf, withoutOf, serves}
+use Rattle.seats.specs.Seats.{has, unionOf, withoutOf}
+use Rattle.offices.specs.Offices.{serves}
 use Rattle.records.specs.Layout.{encodeReport, decodeReport, encodeProposal, decodeProposal, encodeNotice, encodeView, markOf, formFor, formOf}
 use Rattle.records.specs.Layout.{checkFor, checkOf}
 use Rattle.rules.specs.State.{State, fast, slow}

@@ -6,7 +6,8 @@ use lib.Dec.{eqb, ltb}
 use Rattle.laws.specs.Fin.{allb, anyb, largest}
 use Rattle.laws.specs.Tab.{tab}
 use Rattle.laws.specs.Upd.{ifb, upd}
-use Rattle.seats.specs.Seats.{serves, unionOf, withoutOf}
+use Rattle.seats.specs.Seats.{unionOf, withoutOf}
+use Rattle.offices.specs.Offices.{serves}
 use Rattle.records.specs.declared.Report.{Report}
 use Rattle.records.specs.declared.Proposal.{Proposal}
 use Rattle.records.specs.declared.Notice.{Notice}

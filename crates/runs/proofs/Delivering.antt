@@ -10,7 +10,7 @@ use Rattle.laws.specs.Lists.{Every, none}
 use Rattle.laws.proofs.Lists.{every-head, every-tail}
 use Rattle.laws.proofs.Fin.{true-false}
 use Rattle.laws.proofs.Upd.{upd-other}
-use Rattle.seats.specs.Seats.{serves}
+use Rattle.offices.specs.Offices.{serves}
 use Rattle.records.specs.Layout.{encodeProposal, decodeProposal}
 use Rattle.records.proofs.RoundTrip.{proposal-back, proposal-checked}
 use Rattle.records.specs.declared.Proposal.{Proposal}

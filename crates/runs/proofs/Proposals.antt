@@ -11,7 +11,7 @@ use Rattle.laws.proofs.Lists.{every-append, every-map}
 use Rattle.laws.proofs.Fin.{if-cases, true-false}
 use Rattle.laws.proofs.Tab.{length-tab}
 use Rattle.laws.specs.Upd.{ifb}
-use Rattle.seats.specs.Seats.{serves}
+use Rattle.offices.specs.Offices.{serves}
 use Rattle.records.specs.declared.Report.{Report}
 use Rattle.records.specs.declared.Proposal.{Proposal}
 use Rattle.records.specs.declared.Notice.{Notice}

@@ -8,7 +8,7 @@ use native.Mathlib.Omega.{arith}
 use Rattle.laws.specs.Lists.{none}
 use Rattle.laws.proofs.Fin.{true-false}
 use Rattle.laws.proofs.Upd.{upd-other}
-use Rattle.seats.specs.Seats.{serves}
+use Rattle.offices.specs.Offices.{serves}
 use Rattle.seats.proofs.Laws.{union-lt, without-lt}
 use Rattle.records.specs.Layout.{encodeReport}
 use Rattle.records.specs.Fits.{FitsReport}

@@ -10,7 +10,7 @@ use borrow.Author.Tests.{ltb-true, eqb-true, eqb-false, eq-eqb, not-true}
 use Rattle.laws.specs.Lists.{Every, none, more, runs}
 use Rattle.laws.proofs.Fin.{allb-out, and-iff}
 use Rattle.laws.specs.Upd.{ifb}
-use Rattle.seats.specs.Seats.{serves}
+use Rattle.offices.specs.Offices.{serves}
 use Rattle.records.specs.declared.Report.{Report}
 use Rattle.rules.specs.Rules.{fresh}
 use Rattle.rules.specs.Refusals.{Result, wellFormed}

@@ -10,7 +10,7 @@ use lib.Dec.{ltb}
 use borrow.Author.Tests.{ltb-true, ltb-false}
 use Rattle.laws.specs.Lists.{Every}
 use Rattle.laws.proofs.Lists.{every-head}
-use Rattle.seats.specs.Seats.{serves, countOf}
+use Rattle.offices.specs.Offices.{serves, countOf}
 use Rattle.records.specs.declared.Report.{Report}
 use Rattle.records.specs.declared.Proposal.{Proposal}
 use Rattle.records.specs.declared.View.{View}

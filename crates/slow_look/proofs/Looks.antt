@@ -7,7 +7,7 @@ use native.Mathlib.Omega.{arith}
 use lib.Dec.{eqb, ltb}
 use Rattle.laws.specs.Fin.{anyb, largest}
 use Rattle.laws.specs.Upd.{ifb}
-use Rattle.seats.specs.Seats.{serves}
+use Rattle.offices.specs.Offices.{serves}
 use Rattle.seats.specs.declared.SeatSet.{SeatSet}
 use Rattle.slow_look.specs.declared.Look.{Look}
 use Rattle.rules.specs.State.{Mode, None, Fast, Slow, Slot, State, slow, kindOf, storedAt, usedFor}

@@ -4,7 +4,7 @@ use Prim.Native.Nat.{ℕ, _+_, max}
 use lib.Dec.{eqb, ltb}
 use Rattle.laws.specs.Fin.{anyb, largest}
 use Rattle.laws.specs.Upd.{ifb}
-use Rattle.seats.specs.Seats.{serves}
+use Rattle.offices.specs.Offices.{serves}
 use Rattle.slow_look.specs.declared.Look.{Look}
 use Rattle.rules.specs.State.{Mode, None, Fast, Slow, Slot, State, slow, usedFor, numberIn}
 use Rattle.rules.specs.Rules.{inSlot, matchingSlow, aboveOwn, usesOwn}

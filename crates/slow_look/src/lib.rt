@@ -1,4 +1,5 @@
 // What the slow test looks at: the stored proposals; inner to the layer of the step.
+use offices::serves;
 use parts::counted;
 use parts::larger;
 use records::FAST;
@@ -37,7 +38,7 @@ fn looked(a: Look, s: &[u32], o: usize, own: usize, number: u32, net: SeatSet) -
         uses: (matches & (row::stored_used(s, o, own) == number)) | a.uses,
         above: above | a.above,
         joined: larger(counted(above, n), a.joined),
-        top: larger(counted(net.serves(o as u8), n), a.top),
+        top: larger(counted(serves(net, o as u8), n), a.top),
     }
 }
 

@@ -1,8 +1,8 @@
 // The slow test, on the row of an office; inner to the layer of the step.
+use own_proposal::keep_own;
+use own_proposal::own_proposal;
 use parts::opens;
-use proposal_writer::write_proposal;
-use proposing::keep_own;
-use proposing::own_proposal;
+use proposals::write_proposal;
 use records::SLOW;
 use slow_look::Look;
 use slow_look::look_at_all;

@@ -9,10 +9,12 @@ use lib.ListN.{getD}
 use borrow.Author.Tests.{ne-eqb}
 use Rattle.records.specs.Layout.{checkOf}
 use Rattle.records.proofs.OwnChecks.{by-report, by-proposal}
-use Rattle.readers.specs.Read.{readReport, readProposal}
-use Rattle.readers.specs.declared.ReportRead.{ReportRead}
-use Rattle.readers.specs.declared.ProposalRead.{ProposalRead}
-use Rattle.readers.proofs.Reading.{report-refusal, report-decoded, proposal-refusal, proposal-decoded}
+use Rattle.reports.specs.Read.{readReport}
+use Rattle.proposals.specs.Read.{readProposal}
+use Rattle.reports.specs.declared.ReportRead.{ReportRead}
+use Rattle.proposals.specs.declared.ProposalRead.{ProposalRead}
+use Rattle.reports.proofs.Reading.{report-refusal, report-decoded}
+use Rattle.proposals.proofs.Reading.{proposal-refusal, proposal-decoded}
 use Rattle.rules.specs.Refusals.{fullRoom, wellFormed, Event, aReport, aProposal, eventOf, ruleOf, refused, stepOf}
 use Rattle.rules.proofs.Steps.{Accepts, AcceptsEvent, zero-accepts, step-accepts, refused-keeps}
 use Rattle.rules.proofs.Exits.{exit-2, exit-3, report-read, proposal-read, no-bytes}

@@ -1,11 +1,11 @@
 // The step: what comes of any bytes on any row of words, in place.
-use readers::read_proposal;
-use readers::read_report;
+use proposals::read_proposal;
+use reports::read_report;
 use step_answer::accept;
 use step_answer::refuse;
 ghost use mathlib.Core.Path.{_≡_};
 ghost use lib.ListN.{length};
-ghost use Rattle.readers.specs.Read.{readReport};
+ghost use Rattle.reports.specs.Read.{readReport};
 ghost use Rattle.step.specs.Step.{Ready, Stepped, stepRow};
 pub use fresh::fresh;
 pub use row::WORDS;

@@ -15,17 +15,19 @@ use Rattle.run_reader.specs.Run.{runCheck}
 use Rattle.row.specs.Row.{stateOf}
 use Rattle.lines.specs.Lines.{frontOf, behindOf, answerFor, lineFor}
 use Rattle.answer.specs.Held.{Sound}
-use Rattle.buffers.specs.Place.{Within, windowOf, unwrittenOf, waitsOf, roomFor, Sent, Refilled}
+use Rattle.input_buffer.specs.Place.{Within, windowOf, unwrittenOf, waitsOf, Refilled}
+use Rattle.output_buffer.specs.Room.{roomFor, Sent}
 use Rattle.answer.specs.Answered.{Answered}
 use Rattle.places.specs.Places.{sentFrom, Emptied}
 use Rattle.places.proofs.Standing.{sent-few}
 use Rattle.turn.specs.Turn.{Acts, Turns}
-use Rattle.buffers.specs.declared.Place.{Place}
+use Rattle.input_buffer.specs.declared.Place.{Place}
 use Rattle.answer.specs.declared.Acted.{Acted}
 use Rattle.run_reader.proofs.RunLaws.{Front, nothing, other, short, whole, front}
 use Rattle.run_reader.proofs.Growing.{whole-long}
 use Rattle.lines.proofs.Lines.{front-behind, lines-nil, Decided, entire, last, marked, decided-text}
-use Rattle.buffers.proofs.Places.{window-left, front-fits, Waits, waits, ready, waits-cases, room-none, room-nothing, nothing-due}
+use Rattle.input_buffer.proofs.Window.{window-left, front-fits, Waits, waits, ready, waits-cases}
+use Rattle.output_buffer.proofs.Room.{room-none, room-nothing, nothing-due}
 
 -- where a whole record stands in front, or the input has ended, nothing is waited for
 unwaited : (ended : Bool) (w : List ℕ) → (runCheck w ≡ 0) ⊎ (ended ≡ true) → 0 < length w → waitsOf ended w ≡ true → ⊥

@@ -10,8 +10,9 @@ use Rattle.run_reader.specs.Run.{runCheck}
 use Rattle.row.specs.Row.{stateOf}
 use Rattle.lines.specs.Lines.{frontOf, linesOf}
 use Rattle.answer.specs.Held.{Sound}
-use Rattle.buffers.specs.Place.{Within, windowOf, unwrittenOf, waitsOf, roomFor}
-use Rattle.buffers.specs.declared.Place.{Place}
+use Rattle.input_buffer.specs.Place.{Within, windowOf, unwrittenOf, waitsOf}
+use Rattle.input_buffer.specs.declared.Place.{Place}
+use Rattle.output_buffer.specs.Room.{roomFor}
 use Rattle.answer.specs.declared.Acted.{Acted}
 use Rattle.turn.specs.declared.Turned.{Turned}
 

@@ -1,16 +1,17 @@
 // A turn, inner to the program: what is unwritten is written where that is due, then more is read or the record in front is answered.
 use answer::Acted;
 use answer::answer;
-use buffers::Place;
-use buffers::has_room;
-use buffers::refill;
-use buffers::waits;
+use input_buffer::Place;
+use input_buffer::refill;
+use input_buffer::waits;
+use output_buffer::has_room;
 use places::emptied;
 ghost use mathlib.Core.Path.{_≡_};
 ghost use mathlib.Core.Bool.{true};
 ghost use Prim.Native.Nat.{_+_, _<_, _^_};
 ghost use lib.ListN.{length};
-ghost use Rattle.buffers.specs.Place.{Within, windowOf, waitsOf, roomFor};
+ghost use Rattle.input_buffer.specs.Place.{Within, windowOf, waitsOf};
+ghost use Rattle.output_buffer.specs.Room.{roomFor};
 ghost use Rattle.answer.specs.Held.{Sound};
 ghost use Rattle.turn.specs.Turn.{Acts, Turns};
 

@@ -1,8 +1,8 @@
 use borrow.Author.Needs.{needs}
 use mathlib.Core.Path.{refl, sym}
 use native.Mathlib.Omega.{arith}
-use Rattle.buffers.specs.Place.{windowOf}
-use Rattle.buffers.proofs.Places.{front-fits}
+use Rattle.input_buffer.specs.Place.{windowOf}
+use Rattle.input_buffer.proofs.Window.{front-fits}
 use Rattle.answer.proofs.Answering.{written-short, answered}
 use Rattle.answer.proofs.answer.Statement.{statement}
 use Rattle.answer.proofs.answer.Tie as tie

@@ -1,5 +1,6 @@
 use mathlib.Core.Path.{refl}
-use Rattle.text.specs.Text.{decimalIn, decimal, traceOf, lineOf}
+use Rattle.digits.specs.Digits.{decimalIn, decimal}
+use Rattle.text.specs.Text.{traceOf, lineOf}
 use Rattle.lines.specs.Lines.{noOffice}
 use Rattle.feed.proofs.no_office.Statement.{statement}
 use Rattle.feed.proofs.no_office.Tie as tie

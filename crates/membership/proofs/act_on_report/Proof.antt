@@ -3,7 +3,7 @@ use mathlib.Core.Path.{_≡_, sym, _∙_}
 use mathlib.Core.Bool.{true}
 use borrow.Author.Tests.{not-true, not-false}
 use lib.ListN.{length}
-use Rattle.seats.specs.Seats.{serves}
+use Rattle.offices.specs.Offices.{serves}
 use Rattle.rules.specs.Rules.{netAfter, reportRule}
 use Rattle.rules.specs.Refusals.{aReport, limit}
 use Rattle.rules.proofs.Steps.{well-facts}

@@ -2,7 +2,7 @@ use native.Mathlib.Omega.{arith}
 use borrow.Author.Needs.{needs}
 use mathlib.Core.Path.{_≡_, sym, ap, _∙_}
 use Prim.Native.Nat.{_≤_, _-_}
-use Rattle.seats.specs.Seats.{serves}
+use Rattle.offices.specs.Offices.{serves}
 use Rattle.seats.specs.declared.SeatSet.{SeatSet}
 use mathlib.Core.Logic.{⊎-elim}
 use Rattle.row.specs.Row.{stateOf}

@@ -10,10 +10,10 @@ use Rattle.row_checks.proofs.are_within.Statement.{statement}
 use Rattle.row_checks.proofs.are_within.Tie as tie
 
 abbrev Inv-loop : tie.InvT-loop
-Inv-loop s at ok₀ k₀ ok k = (k ≤ 16) × (ok ≡ allb k (λ j. within (getD s (at + j) 0)))
+Inv-loop s at n ok₀ k₀ ok k = (k ≤ n) × (ok ≡ allb k (λ j. within (getD s (at + j) 0)))
 
 abbrev μ-loop : tie.MeasureT-loop
-μ-loop s at ok₀ k₀ ok k = 16 - k
+μ-loop s at n ok₀ k₀ ok k = n - k
 
 loop-holds : tie.Need-loop-holds Inv-loop μ-loop
 unfolding allb
@@ -43,7 +43,7 @@ loop-again c =
 returns : tie.Need-returns Inv-loop μ-loop
 returns c =
     let l = c .before .loop in
-    let e : l .k ≡ 16 = omega arith in
+    let e : l .k ≡ c .before .before .args .n = omega arith in
     l .inv .1 ∙ rw e
 
 pub are-within-spec : {M : Type 1} → statement M

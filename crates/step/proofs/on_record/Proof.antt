@@ -1,7 +1,7 @@
 use mathlib.Core.Path.{sym, ap, _∙_}
 use native.Mathlib.Omega.{arith}
 use lib.ListN.{length}
-use Rattle.readers.specs.declared.ReportRead.{ReportRead}
+use Rattle.reports.specs.declared.ReportRead.{ReportRead}
 use Rattle.rules.specs.Refusals.{aReport}
 use Rattle.row.proofs.Low.{sound-well, sound-row}
 use Rattle.step.proofs.Exits.{ReadAs, report-told, refuse-meets, exit-refused, accept-meets}

@@ -1,7 +1,8 @@
 use borrow.Author.Needs.{needs}
 use mathlib.Core.Path.{sym, _∙_}
 use native.Mathlib.Omega.{arith}
-use Rattle.buffers.proofs.Places.{room-fits, window-length, read-room}
+use Rattle.input_buffer.proofs.Window.{window-length, read-room}
+use Rattle.output_buffer.proofs.Room.{room-fits}
 use Rattle.turn.proofs.Turning.{acts-read, acts-stop, acts-answer}
 use Rattle.turn.proofs.act.Statement.{statement}
 use Rattle.turn.proofs.act.Tie as tie
