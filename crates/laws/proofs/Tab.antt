@@ -3,7 +3,7 @@ use mathlib.Core.Path.{_≡_, refl, sym, ap, _∙_}
 use mathlib.Core.List.{List}
 use Prim.Native.Nat.{ℕ, zero, suc, _+_, _<_}
 use native.Mathlib.Omega.{arith}
-use lib.ListN.{length, getD, set}
+use lib.ListN.{length, getD, set, length-set}
 use lib.Seq.{ext-getD, getD-set-same, getD-set-other}
 use native.Mathlib.Decide.{ℕ-discrete}
 use Rattle.laws.specs.Tab.{tab}
@@ -41,3 +41,12 @@ module _ {A : Type 0} where
       go : Dec (k ≡ i) → getD (set l i (f i)) k d ≡ f k
       go (yes e) = rw e (getD-set-same l i (f i) d lt)
       go (no n) = getD-set-other l i k (f i) d n ∙ h k (omega arith)
+
+  -- a table stored to at one place
+  pub set-tab : (n : ℕ) (f h : ℕ → A) (i : ℕ) → i < n → ((k : ℕ) → (k ≡ i → ⊥) → f k ≡ h k) → set (tab n f) i (h i) ≡ tab n h
+  set-tab n f h i lt e =
+      filled n h (h i) (set (tab n f) i (h i)) (length-set (tab n f) i (h i) ∙ length-tab n f) (λ k l. go k l (ℕ-discrete k i))
+    where
+      go : (k : ℕ) → k < n → Dec (k ≡ i) → getD (set (tab n f) i (h i)) k (h i) ≡ h k
+      go k l (yes q) = let s = length-tab n f in rw q (getD-set-same (tab n f) i (h i) (h i) (omega arith))
+      go k l (no q) = getD-set-other (tab n f) i k (h i) (h i) q ∙ getD-tab n f k (h i) l ∙ e k q
