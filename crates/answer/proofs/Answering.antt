@@ -8,7 +8,7 @@ use lib.ListN.{length, take}
 use Rattle.laws.specs.Upd.{ifb}
 use Rattle.laws.proofs.Big.{sets-front}
 use Rattle.rules.specs.State.{State}
-use Rattle.rules.proofs.Sizes.{step-size}
+use Rattle.rule_laws.proofs.Sizes.{step-size}
 use Rattle.rules.specs.Refusals.{Result, stepOf, allBytes, size}
 use Rattle.row.specs.Row.{stateOf}
 use Rattle.lines.specs.Lines.{lineFor, goesOn}

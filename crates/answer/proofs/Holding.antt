@@ -8,7 +8,7 @@ use lib.ListN.{length}
 use lib.Dec.{eqb, leb}
 use borrow.Author.Tests.{eq-eqb, eqb-true, leb-true}
 use Rattle.rules.specs.Refusals.{wellFormed, madeOf, stepOf}
-use Rattle.rules.proofs.Steps.{fresh-well, step-well}
+use Rattle.rule_laws.proofs.Steps.{fresh-well, step-well}
 use Rattle.row.specs.Row.{Row, rowLength, stateOf}
 use Rattle.row.proofs.Low.{is-row}
 use Rattle.fresh.specs.Fresh.{MadeRow, freshRow}

@@ -8,8 +8,8 @@ use lib.ListN.{length}
 use borrow.Author.Tests.{ne-eqb, eq-eqb, le-leb, lt-leb}
 use Rattle.rules.specs.Rules.{fresh}
 use Rattle.rules.specs.Refusals.{Made, madeOf}
-use Rattle.rules.proofs.Exits.{made-0, made-1}
-use Rattle.rules.proofs.Shapes.{Shaped}
+use Rattle.rule_laws.proofs.Exits.{made-0, made-1}
+use Rattle.rule_laws.proofs.Shapes.{Shaped}
 use Rattle.row.specs.Row.{rowLength, wordsOf}
 use Rattle.row.proofs.Words.{fresh-shaped}
 use Rattle.row.proofs.Holds.{Holds, shaped-holds}

@@ -12,8 +12,8 @@ use Rattle.records.specs.declared.Proposal.{Proposal}
 use Rattle.rules.specs.State.{State}
 use Rattle.rules.specs.Rules.{Outcome, nothingWritten, andThen, netAfter, withNet, seated, slowTest, agreementTest, tests, reportRule, proposalRule}
 use Rattle.rules.specs.Refusals.{Event, ruleOf, size, fullRoom}
-use Rattle.rules.proofs.Recipients.{seated-is}
-use Rattle.rules.proofs.Sizes.{event-size}
+use Rattle.rule_laws.proofs.Recipients.{seated-is}
+use Rattle.rule_laws.proofs.Sizes.{event-size}
 use Rattle.row.specs.Changes.{withNetSet}
 use Rattle.parts.specs.Parts.{receiving, fastRound}
 

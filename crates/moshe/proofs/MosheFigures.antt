@@ -25,8 +25,8 @@ use Rattle.rules.specs.Rules.{notice, proposal, Outcome, nothingWritten, andThe
 use Rattle.rules.specs.Rules.{slowCalled, beginsIn, proposesSlow, slowTest, isNone, agreesKind, agreesIn, agreed, startOf, viewOf, concluded, agreementTest, tests, reportRule, proposalRule}
 use Rattle.moshe.specs.Moshe.{Leaves, Server, toClients, toServers, Handled, nothingSent, thenRun, local, initially, propsOf, usedPropsOf, updateNSView, anyLocal, startFA, sendStartChange, proposalFA, others, sendProposal, storeProp, useProps, sendView}
 use Rattle.moshe.specs.Moshe.{deliverView, matchesNSView, onProposal, startsFA, onNE, reachedFA, neverSA, noSA, fastOnProposal, fastOnNE, serverOf, stateFrom, addressed, handledOf, needed, slowProposal, reached, onProposal01, onNE01}
-use Rattle.rules.proofs.Parts.{proposed-reads, received-reads}
-use Rattle.rules.proofs.Tests.{not-called, agreed-out}
+use Rattle.rule_laws.proofs.Parts.{proposed-reads, received-reads}
+use Rattle.rule_laws.proofs.Tests.{not-called, agreed-out}
 
 -- local(NSView) is not empty exactly when the test says so
 pub local-some : (v : Server) → (anyLocal v ≡ true) ↔ ((c : ℕ) × (local (v .me) (v .NSView) c ≡ true))

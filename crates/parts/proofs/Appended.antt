@@ -10,7 +10,7 @@ use Rattle.laws.proofs.Seqs.{sets-append}
 use Rattle.records.specs.Write.{Placed, placed, placedCount}
 use Rattle.rules.specs.Rules.{Written}
 use Rattle.rules.specs.Refusals.{bytesOf, allBytes, size}
-use Rattle.rules.proofs.Sizes.{bytes-append, size-append, bytes-one}
+use Rattle.rule_laws.proofs.Sizes.{bytes-append, size-append, bytes-one}
 use Rattle.parts.specs.Did.{Appended}
 
 -- no record

@@ -11,8 +11,8 @@ use Rattle.rules.specs.State.{Mode, None, Fast, Slow, State}
 use Rattle.rules.specs.Rules.{opened, opens, nextNumber, proposed, proposesFast, received, slowNumber, beginsIn, nothingWritten, andThen, slowCalled, proposesSlow, slowTest, agreed, startOf}
 use Rattle.rules.specs.Refusals.{limit, wellFormed}
 use Rattle.rules.specs.Bounds.{Capped}
-use Rattle.rules.proofs.Steps.{well-facts}
-use Rattle.rules.proofs.Bounds.{capped-le, opened-capped, proposed-capped, received-capped, next-capped, slowNumber-capped, start-capped}
+use Rattle.rule_laws.proofs.Steps.{well-facts}
+use Rattle.rule_laws.proofs.Bounds.{capped-le, opened-capped, proposed-capped, received-capped, next-capped, slowNumber-capped, start-capped}
 use Rattle.row.specs.Changes.{withNetSet}
 use Rattle.parts.specs.Bounds.{Bounded}
 

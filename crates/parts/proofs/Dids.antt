@@ -9,7 +9,7 @@ use Rattle.records.specs.Write.{Placed}
 use Rattle.rules.specs.State.{State}
 use Rattle.rules.specs.Rules.{Written, Outcome, nothingWritten, andThen}
 use Rattle.rules.specs.Refusals.{bytesOf, size}
-use Rattle.rules.proofs.Sizes.{size-append}
+use Rattle.rule_laws.proofs.Sizes.{size-append}
 use Rattle.row.specs.Row.{Row, stateOf}
 use Rattle.row.specs.Changes.{Changed}
 use Rattle.parts.specs.Did.{Did, Fits}

@@ -9,7 +9,7 @@ use Rattle.seats.specs.declared.SeatSet.{SeatSet}
 use Rattle.records.specs.declared.Proposal.{Proposal}
 use Rattle.rules.specs.State.{Mode, Fast, Slow, State, keeping, storedAt}
 use Rattle.rules.specs.Rules.{notice, proposal, nothingWritten, opened, noticeOf, opens, nextNumber, ownProposal, proposed, hasRecipient, proposesFast, slowNumber, proposesSlow}
-use Rattle.rules.proofs.Parts.{made-is}
+use Rattle.rule_laws.proofs.Parts.{made-is}
 use Rattle.row.specs.Changes.{withMode, withNumber, withStart, withStored}
 use Rattle.parts.specs.Parts.{countedAt}
 use Rattle.parts.proofs.Dids.{one}

@@ -3,7 +3,7 @@ use mathlib.Core.Path.{_≡_}
 use mathlib.Core.List.{List}
 use Prim.Native.Nat.{ℕ}
 use Rattle.rules.specs.State.{State}
-use Rattle.rules.proofs.Shapes.{Shaped}
+use Rattle.rule_laws.proofs.Shapes.{Shaped}
 use Rattle.row.specs.Row.{Row, stateOf, wordsOf}
 use Rattle.row.proofs.Words.{words-row, state-words}
 

@@ -13,7 +13,7 @@ use Rattle.laws.proofs.Tab.{tab-ext, length-tab, getD-tab, filled}
 use Rattle.laws.proofs.Seqs.{tab-add, tab-self}
 use Rattle.rules.specs.State.{Mode, None, Fast, Slow, Slot, State, kindOf, zeros, nothing, storedAt}
 use Rattle.rules.specs.Rules.{fresh}
-use Rattle.rules.proofs.Shapes.{Shaped}
+use Rattle.rule_laws.proofs.Shapes.{Shaped}
 use Rattle.row.specs.Row.{word, rowLength, ownPlace, modePlace, netPlace, membersPlace, slotPlace, startPlace, numberPlace, viewPlace, startsPlace, acceptedPlace, usedPlace, numbersPlace}
 use Rattle.row.specs.Row.{setAt, modeOf, sixteenWords, slotOf, stateOf, flag, setWords, slotWords, slotNumbers, each, wordsOf, Row}
 use Rattle.row.proofs.Parts.{by-parts, viewAt, row-stored, mode-word, mode-back, flag-le, set-read, sixteen-read, slot-read}

@@ -1,7 +1,7 @@
 -- The days of document 01, computed by the rules, are what it says.
 use mathlib.Core.Path.{_≡_, refl}
 use mathlib.Core.List.{List, _∷_}
-use Rattle.rules.specs.Days.{given, dayA, dayB, dayC, dayE, dayG, dayI, dayJ, dayK, lateStart, computed, stated, furtherComputed, furtherStated, refusals, reasons}
+use Rattle.rules.specs.Days.{given, dayA, dayB, dayC, dayE, dayG, dayI, dayJ, dayK, lateStart, selfUsed, computed, stated, furtherComputed, furtherStated, refusals, reasons}
 
 -- an equal entry, then the rest: each entry is compared by computing
 infixr 20 _then_
@@ -15,8 +15,9 @@ days =
     then refl then refl then refl
 
 pub readings : furtherComputed ≡ furtherStated
-unfolding furtherComputed furtherStated dayA dayB dayC dayG lateStart given
-readings = refl then refl then refl then refl then refl then refl then refl then refl then refl then refl then refl then refl
+unfolding furtherComputed furtherStated dayA dayB dayC dayG dayJ lateStart selfUsed given
+readings =
+    refl then refl then refl then refl then refl then refl then refl then refl then refl then refl then refl then refl then refl then refl
 
 pub each-reason : refusals ≡ reasons
 unfolding refusals reasons given

@@ -1,17 +1,1 @@
-pub mod Parts
-pub mod Tests
-pub mod Recipients
-pub mod Encoded
-pub mod Steps
-pub mod Walk
-pub mod Ceiling
-pub mod Bounds
-pub mod Written
-pub mod Reasons
-pub mod Counted
-pub mod Monotone
-pub mod Sizes
-pub mod Exits
-pub mod Checking
-pub mod Shapes
 pub mod Days

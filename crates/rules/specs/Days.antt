@@ -11,7 +11,7 @@ use Rattle.seats.specs.Seats.{has, unionOf, withoutOf}
 use Rattle.offices.specs.Offices.{serves}
 use Rattle.records.specs.Layout.{encodeReport, decodeReport, encodeProposal, decodeProposal, encodeNotice, encodeView, markOf, formFor, formOf}
 use Rattle.records.specs.Layout.{checkFor, checkOf}
-use Rattle.rules.specs.State.{State, fast, slow}
+use Rattle.rules.specs.State.{None, Fast, State, fast, slow}
 use Rattle.rules.specs.Rules.{Written, notice, proposal, view, andThen, fresh, netAfter, withNet, seated, opened, noticeOf, opens, nextNumber}
 use Rattle.rules.specs.Rules.{ownProposal, proposed, receives, proposesFast, received, matching, matchingSlow, aboveOwn, usesOwn, slowCalled}
 use Rattle.rules.specs.Rules.{joinedNumber, slowNumber, proposesSlow, slowTest, agreesKind, isNone, agreed, startOf, viewOf, concluded}
@@ -166,6 +166,23 @@ stated =
     ∷ []
 
 -- Further days, where document 01 decides against the paper's figure 7: the slow test looks at what is stored, and goes by its own cases.
+-- Besides, what no starred day shows: an office outside the net view has no start number in a view, and the own proposal is no matching one,
+-- even where it claims to have used itself, as in this state that no run reaches.
+unfoldable pub selfUsed : State
+selfUsed =
+    proposed Fast 1
+    (record {
+      own = 0;
+      mode = None;
+      net = record { bits = both };
+      stored = before .stored;
+      accepted = before .accepted;
+      view = before .view;
+      start = 1;
+      number = 0;
+      used = two 1 0;
+    })
+
 unfoldable pub furtherComputed : List Day
 furtherComputed =
     seen (P (dayG .state) fast 4 9 2 1)
@@ -178,6 +195,8 @@ furtherComputed =
     ∷ seen (P (dayC .state) slow 3 5 2 1)
     ∷ seen (report (dayC .state) 0)
     ∷ seen lateStart ∷ seen (report (lateStart .state) 0)
+    ∷ seen (report (dayJ .state) seat0)
+    ∷ seen (P selfUsed fast 1 1 0 0)
     ∷ []
 
 unfoldable pub furtherStated : List Day
@@ -202,6 +221,10 @@ furtherStated =
     -- after B, a proposal with start number 5: view 6; then an empty report: the start number rises to the view number
     ∷ accepts 78 (aView 6 both 2 5 ∷ []) 6
     ∷ accepts 98 (aNotice 6 both ∷ aFast 6 3 2 1 ∷ []) 6
+    -- after J's proposal from office 1, seat 0 joins alone: the view has no start number for office 1
+    ∷ accepts 92 (aNotice 1 seat0 ∷ aView 2 seat0 1 0 ∷ []) 2
+    -- office 1 agrees with an own proposal that claims to have used itself: view 2
+    ∷ accepts 78 (aView 2 both 1 1 ∷ []) 2
     ∷ []
 
 -- An input for each reason to refuse from 2 to 10, at a fresh office 0: the smallest change to what would be accepted.

@@ -1,1 +1,1 @@
-// The state, the rules and their laws: definitions and theorems only, in specs and proofs.
+// The state, the rules and document 01's days computed by them: definitions and theorems only. The laws stand in rule_laws.

@@ -11,8 +11,8 @@ use Rattle.records.specs.declared.Proposal.{Proposal}
 use Rattle.rules.specs.State.{State}
 use Rattle.rules.specs.Rules.{Outcome}
 use Rattle.rules.specs.Refusals.{wellFormed, unreadable, Event, eventOf, refusalOf, ruleOf, accepting, actOf, Result, stepOf}
-use Rattle.rules.proofs.Steps.{accepted, Refused, Accepts, Passes, check-facts, step-accepts, step-cases}
-use Rattle.rules.proofs.Encoded.{proposal-event, sender-stays}
+use Rattle.rule_laws.proofs.Steps.{accepted, Refused, Accepts, Passes, check-facts, step-accepts, step-cases}
+use Rattle.rule_laws.proofs.Encoded.{proposal-event, sender-stays}
 use Rattle.runs.specs.World.{World, proposalAnswer}
 use Rattle.runs.proofs.Arrays.{Barred}
 use Rattle.runs.proofs.Proposals.{other-members}

@@ -17,10 +17,10 @@ use Rattle.records.specs.declared.Proposal.{Proposal}
 use Rattle.rules.specs.State.{State, usedAt}
 use Rattle.rules.specs.Rules.{nothingWritten, received, receives, proposalRule}
 use Rattle.rules.specs.Refusals.{limit, wellFormed, Event, aProposal, refusalOf, ruleOf, Result, stepOf}
-use Rattle.rules.proofs.Steps.{accepted, Refused, Accepts, Passes, well-facts, check-facts, facts-check, step-accepts, step-cases}
-use Rattle.rules.proofs.Parts.{received-reads}
-use Rattle.rules.proofs.Encoded.{proposal-event, sender-stays}
-use Rattle.rules.proofs.Walk.{staged-proposal}
+use Rattle.rule_laws.proofs.Steps.{accepted, Refused, Accepts, Passes, well-facts, check-facts, facts-check, step-accepts, step-cases}
+use Rattle.rule_laws.proofs.Parts.{received-reads}
+use Rattle.rule_laws.proofs.Encoded.{proposal-event, sender-stays}
+use Rattle.rule_laws.proofs.Walk.{staged-proposal}
 use Rattle.runs.specs.World.{Item, World, delivery, without, answered, withLink, proposalAnswer, to-proposal, Among}
 use Rattle.runs.specs.Begins.{InF}
 use Rattle.runs.proofs.Arrays.{Offices, Barred, receive, relink, Arrives, FromF, Numbers, Happens, idles, drops, stores, answers}

@@ -21,9 +21,9 @@ use Rattle.records.specs.declared.Proposal.{Proposal}
 use Rattle.rules.specs.State.{State}
 use Rattle.rules.specs.Rules.{netAfter, fresh}
 use Rattle.rules.specs.Refusals.{eventOf, ruleOf, Result, stepOf}
-use Rattle.rules.proofs.Steps.{Refused, Accepts, step-accepts, step-cases}
-use Rattle.rules.proofs.Parts.{fresh-reads}
-use Rattle.rules.proofs.Encoded.{report-event, proposal-event}
+use Rattle.rule_laws.proofs.Steps.{Refused, Accepts, step-accepts, step-cases}
+use Rattle.rule_laws.proofs.Parts.{fresh-reads}
+use Rattle.rule_laws.proofs.Encoded.{report-event, proposal-event}
 use Rattle.runs.specs.World.{Item, World, atFirst, WorldEvent, report, delivery, loss, answered, withLink, idle, delivered, reportAnswer, proposalAnswer, next, run, at, netOne, netBy, Among}
 use Rattle.runs.specs.Begins.{AllAmong}
 use Rattle.runs.proofs.Proposals.{report-net, proposal-net}

@@ -6,8 +6,8 @@ use Prim.Native.Nat.{ℕ, _<_}
 use Rattle.rules.specs.State.{State}
 use Rattle.rules.specs.Rules.{fresh}
 use Rattle.rules.specs.Refusals.{wellFormed}
-use Rattle.rules.proofs.Parts.{fresh-reads}
-use Rattle.rules.proofs.Steps.{step-well, fresh-well}
+use Rattle.rule_laws.proofs.Parts.{fresh-reads}
+use Rattle.rule_laws.proofs.Steps.{step-well, fresh-well}
 use Rattle.runs.specs.Office.{Input, answerTo, nextState, LogEntry, stateAfter, logOf}
 use Rattle.runs.proofs.OfficeRuns.{after-keeps, log-keeps}
 use Rattle.runs.proofs.OfficeViews.{answer-ends}

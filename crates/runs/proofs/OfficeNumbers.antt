@@ -16,7 +16,7 @@ use Rattle.records.specs.declared.Proposal.{Proposal}
 use Rattle.records.specs.declared.View.{View}
 use Rattle.rules.specs.State.{Mode, Slot, State, keeping, nothing, storedAt, acceptedAt}
 use Rattle.rules.specs.Rules.{inSlot, withNet, opened, ownProposal, proposed, received, concluded}
-use Rattle.rules.proofs.Parts.{Reads, proposed-reads, received-reads, concluded-reads}
+use Rattle.rule_laws.proofs.Parts.{Reads, proposed-reads, received-reads, concluded-reads}
 
 -- the last number known of office o: the own proposal number, and of another office the number last accepted from it
 unfoldable pub lastOf : State → ℕ → ℕ

@@ -19,11 +19,11 @@ use Rattle.rules.specs.State.{Mode, None, Fast, Slow, Slot, State, storedAt, us
 use Rattle.rules.specs.Rules.{notice, proposal, view, Outcome, nothingWritten, andThen, fresh, netAfter, withNet, opened, noticeOf, opens, nextNumber, proposesFast, received, inSlot}
 use Rattle.rules.specs.Rules.{slowCalled, beginsIn, slowNumber, proposesSlow, slowTest, agreed, startOf, viewOf, concluded, reportRule, proposalRule}
 use Rattle.rules.specs.Refusals.{Event, aReport, aProposal, eventOf, refusalOf, ruleOf, Result, stepOf}
-use Rattle.rules.proofs.Parts.{fresh-reads, concluded-reads}
-use Rattle.rules.proofs.Tests.{next-above, slow-above, agreed-out}
-use Rattle.rules.proofs.Steps.{check-facts, Refused, Accepts, step-cases, step-accepts}
-use Rattle.rules.proofs.Written.{NoView, fast-every}
-use Rattle.rules.proofs.Walk.{slowRound, concludes, Tested, staged-report, staged-proposal}
+use Rattle.rule_laws.proofs.Parts.{fresh-reads, concluded-reads}
+use Rattle.rule_laws.proofs.Tests.{next-above, slow-above, agreed-out}
+use Rattle.rule_laws.proofs.Steps.{check-facts, Refused, Accepts, step-cases, step-accepts}
+use Rattle.rule_laws.proofs.Written.{NoView, fast-every}
+use Rattle.rule_laws.proofs.Walk.{slowRound, concludes, Tested, staged-report, staged-proposal}
 use Rattle.runs.specs.Office.{Input, answerTo, nextState, LogEntry, answerOf, logOf, Before, testedIn, testedAt, CountedAt}
 use Rattle.runs.proofs.OfficeRuns.{log-keeps, before-first, before-second}
 use Rattle.runs.proofs.OfficeNumbers.{lastOf, SlotAfter, same, empty, newer, Renews, renews-none, renews-then, renews-net, renews-opened, renews-proposed, renews-received, renews-concluded}

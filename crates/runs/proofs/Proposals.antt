@@ -19,10 +19,10 @@ use Rattle.records.specs.declared.View.{View}
 use Rattle.rules.specs.State.{Mode, None, Fast, Slow, State, fast, slow, kindOf, usedAt, usedFor}
 use Rattle.rules.specs.Rules.{Written, notice, proposal, view, Outcome, nothingWritten, andThen, hasRecipient, netAfter, seated, ownProposal, proposed, opens, slowNumber, nextNumber, proposesSlow, proposesFast, received, reportRule, proposalRule}
 use Rattle.rules.specs.Refusals.{Event, aReport, aProposal, eventOf, stepOf}
-use Rattle.rules.proofs.Steps.{Refused, Accepts, step-accepts, step-cases}
-use Rattle.rules.proofs.Parts.{withNet-reads, opened-reads, proposed-reads, received-reads, concluded-reads, made-is, made-used}
-use Rattle.rules.proofs.Tests.{slow-above, next-above}
-use Rattle.rules.proofs.Walk.{arrived, concludes, ProposesFast, ProposesSlow, after-opening, in-round, Walk, Tested, staged-report, staged-proposal, walk-report, walk-proposal, walk-event}
+use Rattle.rule_laws.proofs.Steps.{Refused, Accepts, step-accepts, step-cases}
+use Rattle.rule_laws.proofs.Parts.{withNet-reads, opened-reads, proposed-reads, received-reads, concluded-reads, made-is, made-used}
+use Rattle.rule_laws.proofs.Tests.{slow-above, next-above}
+use Rattle.rule_laws.proofs.Walk.{arrived, concludes, ProposesFast, ProposesSlow, after-opening, in-round, Walk, Tested, staged-report, staged-proposal, walk-report, walk-proposal, walk-event}
 
 -- P holds of a record if it is a proposal, and of each proposal written
 pub data IfProposal (P : Proposal → Type 0) : Written → Type 0 where

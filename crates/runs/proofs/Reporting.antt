@@ -17,10 +17,10 @@ use Rattle.records.specs.declared.Report.{Report}
 use Rattle.rules.specs.State.{State, usedAt}
 use Rattle.rules.specs.Rules.{nothingWritten, netAfter, withNet, seated, receives, reportRule}
 use Rattle.rules.specs.Refusals.{limit, wellFormed, Event, aReport, ruleOf, Result, stepOf}
-use Rattle.rules.proofs.Steps.{accepted, Refused, Accepts, well-facts, step-accepts}
-use Rattle.rules.proofs.Parts.{withNet-reads}
-use Rattle.rules.proofs.Encoded.{report-event}
-use Rattle.rules.proofs.Walk.{staged-report}
+use Rattle.rule_laws.proofs.Steps.{accepted, Refused, Accepts, well-facts, step-accepts}
+use Rattle.rule_laws.proofs.Parts.{withNet-reads}
+use Rattle.rule_laws.proofs.Encoded.{report-event}
+use Rattle.rule_laws.proofs.Walk.{staged-report}
 use Rattle.runs.specs.World.{World, report, answered, reportAnswer, Among}
 use Rattle.runs.specs.Begins.{InF}
 use Rattle.runs.proofs.Arrays.{Offices, Barred, renet, Numbers, Happens, refuses, leaves, reports}

@@ -13,9 +13,9 @@ use Rattle.offices.specs.Offices.{serves}
 use Rattle.records.specs.declared.Proposal.{Proposal}
 use Rattle.rules.specs.State.{Mode, None, Fast, Slow, Slot, State, fast, slow, kindOf, usedFor}
 use Rattle.rules.specs.Rules.{Written, notice, proposal, view, Outcome, nothingWritten, andThen, receives, hasRecipient, ownProposal, proposed, opens, inSlot, startOf, viewOf, concluded, slowCalled, slowNumber, nextNumber, beginsIn, proposesSlow, proposesFast}
-use Rattle.rules.proofs.Parts.{made-is, made-used}
-use Rattle.rules.proofs.Tests.{Matching, Above, Cause, in-none, heard-slow, is-used, above-own, NotCalled, NumberFrom, joins, starts, Agreeing, AllAgree, called-out, not-called, slow-number, slow-above, next-above, agreed-out, agreed-in}
-use Rattle.rules.proofs.Walk.{slowRound, concludes, Tested}
+use Rattle.rule_laws.proofs.Parts.{made-is, made-used}
+use Rattle.rule_laws.proofs.Tests.{Matching, Above, Cause, in-none, heard-slow, is-used, above-own, NotCalled, NumberFrom, joins, starts, Agreeing, AllAgree, called-out, not-called, slow-number, slow-above, next-above, agreed-out, agreed-in}
+use Rattle.rule_laws.proofs.Walk.{slowRound, concludes, Tested}
 use Rattle.runs.specs.World.{Item, SentRecord, SentView, mail, logged, viewsIn}
 use Rattle.runs.proofs.Arrays as off
 use Rattle.runs.proofs.Arrays.{Offices, mailTo, propose, conclude, viewWith, Match, other, Proposes, Calls, Silent, Joinable, Chosen, Agrees, Agreed, SlowTest, AgreementTest, Tests}

@@ -8,8 +8,8 @@ use Rattle.laws.specs.Lists.{Every, none}
 use Rattle.laws.proofs.Fin.{true-false}
 use Rattle.rules.specs.State.{None, State, noProposal, nothing}
 use Rattle.rules.specs.Rules.{fresh}
-use Rattle.rules.proofs.Steps.{fresh-well}
-use Rattle.rules.proofs.Parts.{fresh-reads}
+use Rattle.rule_laws.proofs.Steps.{fresh-well}
+use Rattle.rule_laws.proofs.Parts.{fresh-reads}
 use Rattle.runs.specs.World.{Item, atFirst}
 use Rattle.runs.specs.Begins.{Begins, end}
 use Rattle.runs.proofs.Arrays.{Offices, Numbers}

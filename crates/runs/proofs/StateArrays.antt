@@ -8,7 +8,7 @@ use Rattle.offices.specs.Offices.{serves}
 use Rattle.records.specs.declared.Proposal.{Proposal}
 use Rattle.rules.specs.State.{Mode, None, State, nothing, keeping, storedAt, acceptedAt, usedAt, numberIn}
 use Rattle.rules.specs.Rules.{withNet, opened, ownProposal, proposed, received, concluded}
-use Rattle.rules.proofs.Parts.{withNet-reads, opened-reads, proposed-reads, received-reads, concluded-reads, made-is}
+use Rattle.rule_laws.proofs.Parts.{withNet-reads, opened-reads, proposed-reads, received-reads, concluded-reads, made-is}
 use Rattle.runs.specs.World.{Item}
 use Rattle.laws.proofs.Grid.{row-same}
 use Rattle.runs.proofs.Arrays.{Offices, renet, propose, receive, conclude}

@@ -14,7 +14,7 @@ use Rattle.records.specs.declared.Proposal.{Proposal}
 use Rattle.rules.specs.State.{State, fast, slow, usedAt, usedFor}
 use Rattle.rules.specs.Rules.{receives}
 use Rattle.rules.specs.Refusals.{limit}
-use Rattle.rules.proofs.Steps.{WellFormed}
+use Rattle.rule_laws.proofs.Steps.{WellFormed}
 use Rattle.runs.proofs.Proposals.{Begun, MadeBetween}
 
 -- a proposal from office i that office j takes, whatever its state has accepted

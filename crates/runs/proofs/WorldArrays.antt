@@ -14,7 +14,7 @@ use Rattle.records.specs.declared.Proposal.{Proposal}
 use Rattle.rules.specs.State.{State, usedFor}
 use Rattle.rules.specs.Rules.{Written, notice, proposal, view, Outcome, receives}
 use Rattle.rules.specs.Refusals.{wellFormed, Result}
-use Rattle.rules.proofs.Steps.{accepted}
+use Rattle.rule_laws.proofs.Steps.{accepted}
 use Rattle.runs.specs.World.{Item, World, SentRecord, viewsIn, mail, logged, answered, withLink, idle}
 use Rattle.runs.proofs.Arrays.{Offices, FromF}
 use Rattle.runs.specs.Begins.{InF, HasSent}

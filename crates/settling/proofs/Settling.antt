@@ -16,7 +16,7 @@ use Rattle.records.specs.declared.Proposal.{Proposal}
 use Rattle.records.specs.declared.View.{View}
 use Rattle.rules.specs.State.{State}
 use Rattle.rules.specs.Refusals.{Result}
-use Rattle.rules.proofs.Steps.{Passes}
+use Rattle.rule_laws.proofs.Steps.{Passes}
 use Rattle.runs.specs.World.{Item, World, atFirst, WorldEvent, report, delivery, at, Nth, Gives, to-report, to-proposal}
 use Rattle.runs.specs.Begins.{Begins}
 use Rattle.runs.proofs.Arrays.{Offices, Numbers, Happens, viewWith}

@@ -16,8 +16,8 @@ use Rattle.proposals.specs.declared.ProposalRead.{ProposalRead}
 use Rattle.reports.proofs.Reading.{report-refusal, report-decoded}
 use Rattle.proposals.proofs.Reading.{proposal-refusal, proposal-decoded}
 use Rattle.rules.specs.Refusals.{fullRoom, wellFormed, Event, aReport, aProposal, eventOf, ruleOf, refused, stepOf}
-use Rattle.rules.proofs.Steps.{Accepts, AcceptsEvent, zero-accepts, step-accepts, refused-keeps}
-use Rattle.rules.proofs.Exits.{exit-2, exit-3, report-read, proposal-read, no-bytes}
+use Rattle.rule_laws.proofs.Steps.{Accepts, AcceptsEvent, zero-accepts, step-accepts, refused-keeps}
+use Rattle.rule_laws.proofs.Exits.{exit-2, exit-3, report-read, proposal-read, no-bytes}
 use Rattle.row.specs.Row.{stateOf, isRow, word}
 use Rattle.row.proofs.Low.{is-row, not-sound, sound-words, sound-row, sound-well}
 use Rattle.row.proofs.Words.{row-words}

@@ -12,10 +12,10 @@ use Rattle.laws.proofs.Big.{sets-front, sets-rest}
 use Rattle.laws.proofs.Fin.{if-cases}
 use Rattle.laws.specs.Upd.{ifb}
 use Rattle.rules.specs.Refusals.{eventOf, fullRoom, stepOf, allBytes, size}
-use Rattle.rules.proofs.Steps.{Refused, Accepts, step-cases, step-accepts}
-use Rattle.rules.proofs.Sizes.{step-size}
-use Rattle.rules.proofs.Exits.{no-bytes, room-enough}
-use Rattle.rules.proofs.Shapes.{event-shaped, read-sixteen}
+use Rattle.rule_laws.proofs.Steps.{Refused, Accepts, step-cases, step-accepts}
+use Rattle.rule_laws.proofs.Sizes.{step-size}
+use Rattle.rule_laws.proofs.Exits.{no-bytes, room-enough}
+use Rattle.rule_laws.proofs.Shapes.{event-shaped, read-sixteen}
 use Rattle.row.specs.Row.{Row, stateOf, wordsOf, isRow}
 use Rattle.row.proofs.Low.{is-row}
 use Rattle.step.specs.Step.{RowResult, stepRow, Stepped}

@@ -7,9 +7,9 @@ use Rattle.records.specs.declared.Proposal.{Proposal}
 use Rattle.rules.specs.State.{State}
 use Rattle.rules.specs.Rules.{reportRule, proposalRule}
 use Rattle.rules.specs.Refusals.{wellFormed, firstOf, proposalChecks}
-use Rattle.rules.proofs.Steps.{check-facts}
+use Rattle.rule_laws.proofs.Steps.{check-facts}
 use Rattle.rules.specs.Bounds.{Capped, low}
-use Rattle.rules.proofs.Bounds.{low-report, low-proposal}
+use Rattle.rule_laws.proofs.Bounds.{low-report, low-proposal}
 
 module _ (s : State) (well : wellFormed s ≡ true) (h : Capped low low s) where
   pub report-stays : (r : Report) → wellFormed (reportRule s r .state) ≡ true

@@ -5,7 +5,7 @@ use borrow.Author.Tests.{le-leb, leb-true}
 use Rattle.laws.proofs.Fin.{and-in, and-l, and-r, true-false}
 use Rattle.rules.specs.State.{State}
 use Rattle.rules.specs.Refusals.{within, wellFormed, Event, refusalOf, ruleOf}
-use Rattle.rules.proofs.Ceiling.{ceiling}
+use Rattle.rule_laws.proofs.Ceiling.{ceiling}
 use Rattle.checks.specs.Checks.{madeWithin}
 
 -- the state left passes check 2 exactly when the numbers that the event can make are within L

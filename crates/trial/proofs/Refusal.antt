@@ -8,7 +8,7 @@ use borrow.Author.Tests.{ne-eqb}
 use Rattle.records.specs.Layout.{checkOf}
 use Rattle.rules.specs.State.{State}
 use Rattle.rules.specs.Refusals.{fullRoom, wellFormed, Event, eventOf, refusalOf, ruleOf, Result, actOf, stepOf}
-use Rattle.rules.proofs.Exits.{exit-unread, exit-read, act-checked, act-passed}
+use Rattle.rule_laws.proofs.Exits.{exit-unread, exit-read, act-checked, act-passed}
 use Rattle.trial.specs.Tried.{refusalFrom}
 
 module _ (s : State) (e : Event) where

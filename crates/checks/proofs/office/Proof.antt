@@ -1,6 +1,6 @@
 use mathlib.Core.Path.{sym, ap}
 use Rattle.rules.specs.Refusals.{Made}
-use Rattle.rules.proofs.Exits.{made-0, made-1}
+use Rattle.rule_laws.proofs.Exits.{made-0, made-1}
 use Rattle.checks.proofs.office.Statement.{statement}
 use Rattle.checks.proofs.office.Tie as tie
 

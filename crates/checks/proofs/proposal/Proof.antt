@@ -1,7 +1,7 @@
 use mathlib.Core.Path.{_≡_}
 use Rattle.rules.specs.Refusals.{firstOf, formChecks}
 use Rattle.row.specs.Row.{stateOf}
-use Rattle.rules.proofs.Checking.{checked-form, checked-sender, checked-11, checked-12, checked-none}
+use Rattle.rule_laws.proofs.Checking.{checked-form, checked-sender, checked-11, checked-12, checked-none}
 use borrow.Author.Needs.{needs}
 use Rattle.checks.proofs.proposal.Statement.{statement}
 use Rattle.checks.proofs.proposal.Tie as tie

@@ -1,6 +1,6 @@
 use borrow.Author.Needs.{needs}
 use mathlib.Core.Path.{sym}
-use Rattle.rules.proofs.Recipients.{recipient-count}
+use Rattle.rule_laws.proofs.Recipients.{recipient-count}
 use Rattle.fast_proposal.proofs.has_recipient.Statement.{statement}
 use Rattle.fast_proposal.proofs.has_recipient.Tie as tie
 

@@ -6,7 +6,7 @@ use borrow.Author.Tests.{not-true, not-false}
 use Rattle.row.specs.Row.{stateOf}
 use Rattle.rules.specs.State.{Fast}
 use Rattle.rules.specs.Rules.{proposal, nextNumber, ownProposal, proposesFast}
-use Rattle.rules.proofs.Recipients.{own-seated}
+use Rattle.rule_laws.proofs.Recipients.{own-seated}
 use Rattle.parts.specs.Did.{Did}
 use Rattle.parts.proofs.Dids.{did-as, did-quiet, did-wrote, did-end}
 use Rattle.parts.proofs.Made.{own-same, own-sender, fast-alone, fast-written}

@@ -1,5 +1,5 @@
 use mathlib.Core.Path.{sym, _∙_}
-use Rattle.rules.proofs.Checking.{form-6, form-7, form-8, form-9, form-10, form-0}
+use Rattle.rule_laws.proofs.Checking.{form-6, form-7, form-8, form-9, form-10, form-0}
 use borrow.Author.Needs.{needs}
 use Rattle.form_checks.proofs.form.Statement.{statement}
 use Rattle.form_checks.proofs.form.Tie as tie

@@ -6,7 +6,7 @@ use lib.ListN.{length}
 use Rattle.offices.specs.Offices.{serves}
 use Rattle.rules.specs.Rules.{netAfter, reportRule}
 use Rattle.rules.specs.Refusals.{aReport, limit}
-use Rattle.rules.proofs.Steps.{well-facts}
+use Rattle.rule_laws.proofs.Steps.{well-facts}
 use Rattle.row.specs.Row.{stateOf}
 use Rattle.row.specs.Changes.{withNetSet}
 use Rattle.parts.specs.Parts.{fastRound}

@@ -1,7 +1,7 @@
 use native.Mathlib.Omega.{arith}
 use lib.ListN.{length}
 use Rattle.rules.specs.Refusals.{aProposal}
-use Rattle.rules.proofs.Steps.{check-facts}
+use Rattle.rule_laws.proofs.Steps.{check-facts}
 use Rattle.row.specs.Row.{stateOf}
 use Rattle.row.proofs.Low.{sound-well, sound-row}
 use Rattle.step.proofs.Exits.{ReadAs, proposal-told, refuse-meets, exit-refused, accepts-event, accept-meets}

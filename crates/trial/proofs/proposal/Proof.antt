@@ -1,6 +1,6 @@
 use mathlib.Core.Path.{sym, _∙_}
 use Rattle.rules.specs.Refusals.{aProposal}
-use Rattle.rules.proofs.Steps.{well-facts}
+use Rattle.rule_laws.proofs.Steps.{well-facts}
 use Rattle.row.specs.Row.{stateOf}
 use Rattle.row.proofs.Low.{sound-well, sound-row}
 use Rattle.trial.proofs.Refusal.{from-unread, from-checks, from-13, from-0}

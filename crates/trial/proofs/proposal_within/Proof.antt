@@ -8,7 +8,7 @@ use borrow.Author.Tests.{leb-true}
 use Rattle.laws.proofs.Fin.{and-l, and-r}
 use Rattle.rules.specs.Rules.{proposalRule}
 use Rattle.rules.specs.Refusals.{aProposal}
-use Rattle.rules.proofs.Steps.{check-facts}
+use Rattle.rule_laws.proofs.Steps.{check-facts}
 use Rattle.row.specs.Row.{stateOf, low}
 use Rattle.checks.specs.Checks.{madeWithin}
 use Rattle.row.proofs.Low.{low-is}

@@ -15,12 +15,12 @@ use Rattle.laws.specs.Upd.{ifb}
 use Rattle.offices.specs.Offices.{serves}
 use Rattle.records.specs.Layout.{checkOf}
 use Rattle.records.specs.declared.Proposal.{Proposal}
 use Rattle.rules.specs.State.{Slot, State, fast, slow, storedAt, acceptedAt, usedAt, usedFor}
 use Rattle.rules.specs.Rules.{Outcome, fresh}
-use Rattle.rules.proofs.Parts.{fresh-reads}
+use Rattle.rule_laws.proofs.Parts.{fresh-reads}
 use Rattle.rules.specs.Refusals.{limit, fullRoom, within, slotWithin, wellFormed, firstOf, unreadable, Event, eventOf, wrongSender}
 use Rattle.rules.specs.Refusals.{wrongKind, wrongNumber, withoutSeat, strayUsed, notAbove, usedAhead, proposalChecks, refusalOf, ruleOf, Result}
 use Rattle.rules.specs.Refusals.{refused, accepting, actOf, stepOf}
 
 -- what a stored proposal that passes check 2 satisfies
 pub record SlotWithin (v : Slot) : Type 0 where

@@ -13,15 +13,15 @@ use Rattle.laws.proofs.Upd.{upd-other}
 use Rattle.offices.specs.Offices.{serves}
 use Rattle.records.specs.declared.Proposal.{Proposal}
 use Rattle.records.specs.declared.View.{View}
 use Rattle.rules.specs.State.{Mode, Fast, Slow, Slot, State, nothing, keeping, storedAt, usedAt}
 use Rattle.rules.specs.Rules.{Written, notice, proposal, view, Outcome, nothingWritten, andThen, opened, noticeOf, opens, nextNumber, ownProposal}
 use Rattle.rules.specs.Rules.{proposed, proposesFast, slowNumber, proposesSlow, inSlot, agreed, startOf, viewOf, concluded}
 use Rattle.rules.specs.Refusals.{Event, eventOf, ruleOf, stepOf}
-use Rattle.rules.proofs.Parts.{opened-reads, proposed-reads, concluded-reads}
-use Rattle.rules.proofs.Tests.{agreed-out}
-use Rattle.rules.proofs.Steps.{Refused, Accepts, step-cases, step-accepts}
-use Rattle.rules.proofs.Walk.{arrived, concludes, Walk, walk-event}
-use Rattle.rules.proofs.Written.{fast-every, NoView}
+use Rattle.rule_laws.proofs.Parts.{opened-reads, proposed-reads, concluded-reads}
+use Rattle.rule_laws.proofs.Tests.{agreed-out}
+use Rattle.rule_laws.proofs.Steps.{Refused, Accepts, step-cases, step-accepts}
+use Rattle.rule_laws.proofs.Walk.{arrived, concludes, Walk, walk-event}
+use Rattle.rule_laws.proofs.Written.{fast-every, NoView}
 
 -- from the state s that arrived to the state t left, p is the proposal of office o that the view v counted
 pub record Counts (s t : State) (v : View) (o : ℕ) (p : Proposal) : Type 0 where

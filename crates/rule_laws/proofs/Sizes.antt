@@ -17,17 +17,17 @@ use Rattle.records.specs.Layout.{noticeLength, proposalLength, viewLength}
 use Rattle.records.proofs.Lengths.{proposal-length, notice-length, view-length}
 use Rattle.records.specs.declared.Report.{Report}
 use Rattle.records.specs.declared.Proposal.{Proposal}
 use Rattle.rules.specs.State.{Mode, None, Fast, Slow, Slot, State, keeping, storedAt, numberIn}
 use Rattle.rules.specs.Rules.{Written, notice, proposal, view, Outcome, andThen, opened, opens}
 use Rattle.rules.specs.Rules.{noticeOf, nextNumber, ownProposal, proposed, receives, hasRecipient, proposesFast}
 use Rattle.rules.specs.Rules.{beginsIn, slowNumber, proposesSlow, isNone, agreed, viewOf, reportRule}
 use Rattle.rules.specs.Rules.{proposalRule}
 use Rattle.rules.specs.Refusals.{fullRoom, Event, aReport, aProposal, eventOf, ruleOf, stepOf, bytesOf, allBytes, size}
-use Rattle.rules.proofs.Steps.{Refused, Accepts, step-cases, step-accepts}
-use Rattle.rules.proofs.Walk.{arrived, slowRound, concludes, then-state, Tested, staged-report, staged-proposal}
-use Rattle.rules.proofs.Monotone.{next-above-stored}
-use Rattle.rules.proofs.Parts.{proposed-reads}
-use Rattle.rules.proofs.Tests.{Agreeing, agreed-in, agreed-out, slow-above}
+use Rattle.rule_laws.proofs.Steps.{Refused, Accepts, step-cases, step-accepts}
+use Rattle.rule_laws.proofs.Walk.{arrived, slowRound, concludes, then-state, Tested, staged-report, staged-proposal}
+use Rattle.rule_laws.proofs.Monotone.{next-above-stored}
+use Rattle.rule_laws.proofs.Parts.{proposed-reads}
+use Rattle.rule_laws.proofs.Tests.{Agreeing, agreed-in, agreed-out, slow-above}
 
 pub bytes-append : (a b : List Written) → allBytes (a ++ b) ≡ allBytes a ++ allBytes b
 unfolding allBytes

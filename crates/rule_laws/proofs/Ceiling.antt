@@ -13,14 +13,14 @@ use Rattle.laws.specs.Upd.{ifb, upd}
 use Rattle.laws.proofs.Upd.{upd-cases}
 use Rattle.offices.specs.Offices.{serves}
 use Rattle.records.specs.declared.Proposal.{Proposal}
 use Rattle.rules.specs.State.{Mode, Fast, Slow, Slot, State, keeping, storedAt, acceptedAt, usedAt, numberIn}
 use Rattle.rules.specs.Rules.{Written, Outcome, nothingWritten, andThen, withNet, opened, opens, ownProposal, proposed, nextNumber, slowNumber, proposesFast}
 use Rattle.rules.specs.Rules.{proposesSlow, startOf, viewOf, concluded, agreed}
 use Rattle.rules.specs.Refusals.{limit, wellFormed, Event, aReport, aProposal, refusalOf, ruleOf}
-use Rattle.rules.proofs.Steps.{SlotWithin, well-facts, facts-well, check-facts}
-use Rattle.rules.proofs.Parts.{proposed-reads, received-reads, concluded-reads, made-is, made-used}
-use Rattle.rules.proofs.Tests.{AllAgree, agreed-out, next-above, slow-above}
-use Rattle.rules.proofs.Walk.{arrived, concludes, Walk, walk-event}
+use Rattle.rule_laws.proofs.Steps.{SlotWithin, well-facts, facts-well, check-facts}
+use Rattle.rule_laws.proofs.Parts.{proposed-reads, received-reads, concluded-reads, made-is, made-used}
+use Rattle.rule_laws.proofs.Tests.{AllAgree, agreed-out, next-above, slow-above}
+use Rattle.rule_laws.proofs.Walk.{arrived, concludes, Walk, walk-event}
 
 -- the numbers of a state that no event makes
 pub record Copied (s : State) : Type 0 where

@@ -9,12 +9,12 @@ use borrow.Author.Tests.{eqb-true, eqb-false}
 use Rattle.laws.proofs.Fin.{if-cases}
 use Rattle.records.specs.declared.Report.{Report}
 use Rattle.records.specs.declared.Proposal.{Proposal}
 use Rattle.rules.specs.State.{Mode, None, Fast, Slow, State}
 use Rattle.rules.specs.Rules.{Written, view, Outcome, nothingWritten, andThen, netAfter, withNet, seated, opened, opens, proposesFast, received}
 use Rattle.rules.specs.Rules.{slowCalled, beginsIn, proposesSlow, slowTest, agreed, viewOf, concluded, agreementTest, tests, reportRule}
 use Rattle.rules.specs.Rules.{proposalRule}
 use Rattle.rules.specs.Refusals.{Event, aReport, aProposal, ruleOf}
-use Rattle.rules.proofs.Parts.{received-reads}
+use Rattle.rule_laws.proofs.Parts.{received-reads}
 
 -- the state in which the first change of an event leaves the office: step 1 of a report, or a proposal stored
 abbrev pub arrived : State → Event → State

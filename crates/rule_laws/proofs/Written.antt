@@ -14,14 +14,14 @@ use Rattle.offices.specs.Offices.{serves}
 use Rattle.records.specs.declared.Notice.{Notice}
 use Rattle.records.specs.declared.Proposal.{Proposal}
 use Rattle.records.specs.declared.View.{View}
 use Rattle.rules.specs.State.{Mode, None, Fast, Slow, State, keeping, usedFor}
 use Rattle.rules.specs.Rules.{Written, notice, proposal, view, Outcome, andThen, opened, noticeOf, opens, nextNumber, ownProposal}
 use Rattle.rules.specs.Rules.{proposed, hasRecipient, proposesFast, slowNumber, proposesSlow, agreed, startOf, viewOf, concluded}
 use Rattle.rules.specs.Refusals.{limit, Event, eventOf, ruleOf, stepOf}
-use Rattle.rules.proofs.Tests.{agreed-out, next-above, slow-above}
-use Rattle.rules.proofs.Steps.{SlotWithin, Refused, Accepts, well-facts, step-cases, step-accepts}
-use Rattle.rules.proofs.Walk.{concludes, Walk, walk-event}
-use Rattle.rules.proofs.Ceiling.{Copied, MadeWithin, Copies, copying, copies-then, made-within, view-starts, arrived-copied, well-copied, accepted-fits}
+use Rattle.rule_laws.proofs.Tests.{agreed-out, next-above, slow-above}
+use Rattle.rule_laws.proofs.Steps.{SlotWithin, Refused, Accepts, well-facts, step-cases, step-accepts}
+use Rattle.rule_laws.proofs.Walk.{concludes, Walk, walk-event}
+use Rattle.rule_laws.proofs.Ceiling.{Copied, MadeWithin, Copies, copying, copies-then, made-within, view-starts, arrived-copied, well-copied, accepted-fits}
 
 -- the fast proposal, written or not
 pub fast-every : (R : Written → Type 0) (s : State) → R (proposal (ownProposal Fast (nextNumber s) s)) → Every R (proposesFast s .written)

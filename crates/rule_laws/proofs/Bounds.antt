@@ -11,15 +11,15 @@ use Rattle.laws.proofs.Upd.{upd-cases}
 use Rattle.offices.specs.Offices.{serves}
 use Rattle.records.specs.declared.Report.{Report}
 use Rattle.records.specs.declared.Proposal.{Proposal}
 use Rattle.rules.specs.State.{Mode, None, Fast, Slow, Slot, State, keeping, storedAt, usedFor, numberIn}
 use Rattle.rules.specs.Rules.{andThen, withNet, opened, opens, nextNumber, ownProposal, proposed, proposesFast, received}
 use Rattle.rules.specs.Rules.{slowNumber, beginsIn, proposesSlow, agreed, startOf, viewOf, concluded, reportRule, proposalRule}
 use Rattle.rules.specs.Refusals.{limit, wellFormed, aReport, aProposal}
 use Rattle.rules.specs.Bounds.{SlotCapped, Capped, low}
-use Rattle.rules.proofs.Parts.{proposed-reads, received-reads}
-use Rattle.rules.proofs.Tests.{NumberFrom, joins, starts, slow-number, agreed-out}
-use Rattle.rules.proofs.Walk.{arrived, slowRound, concludes, then-state, Tested, staged-report, staged-proposal}
-use Rattle.rules.proofs.Ceiling.{made-well}
+use Rattle.rule_laws.proofs.Parts.{proposed-reads, received-reads}
+use Rattle.rule_laws.proofs.Tests.{NumberFrom, joins, starts, slow-number, agreed-out}
+use Rattle.rule_laws.proofs.Walk.{arrived, slowRound, concludes, then-state, Tested, staged-report, staged-proposal}
+use Rattle.rule_laws.proofs.Ceiling.{made-well}
 
 slot-le : {a b : ℕ} (c d : ℕ) {v : Slot} → a ≤ c → b ≤ d → SlotCapped a b v → SlotCapped c d v
 slot-le c d x y h = record { start = λ p. let z = h .start p in omega arith; number = λ p. let z = h .number p in omega arith }

@@ -9,12 +9,12 @@ use borrow.Author.Tests.{lt-ltb, le-ltb, le-leb, lt-leb, ne-eqb}
 use Rattle.laws.specs.Upd.{ifb}
 use Rattle.records.specs.Layout.{reportMark, proposalMark, reportLength, proposalLength, checkOf, checkOwn, decodeReport, decodeProposal}
 use Rattle.records.proofs.CheckLaws.{own-mark}
 use Rattle.rules.specs.State.{State}
 use Rattle.rules.specs.Rules.{fresh}
 use Rattle.rules.specs.Refusals.{wellFormed, fullRoom, madeOf, unreadable, Event, aReport, aProposal, eventOf, refusalOf, ruleOf}
 use Rattle.rules.specs.Refusals.{refused, accepting, actOf, stepOf, allBytes, size}
-use Rattle.rules.proofs.Steps.{Refused, Accepts, step-cases}
-use Rattle.rules.proofs.Sizes.{step-size}
+use Rattle.rule_laws.proofs.Steps.{Refused, Accepts, step-cases}
+use Rattle.rule_laws.proofs.Sizes.{step-size}
 
 -- 1
 module _ (o : ℕ) where

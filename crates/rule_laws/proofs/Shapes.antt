@@ -15,11 +15,11 @@ use Rattle.offices.specs.Offices.{serves}
 use Rattle.records.specs.Layout.{markOf}
 use Rattle.records.specs.declared.Proposal.{Proposal}
 use Rattle.records.proofs.OwnChecks.{used-sixteen}
 use Rattle.rules.specs.State.{Mode, Fast, Slow, Slot, State, nothing, keeping, storedAt}
 use Rattle.rules.specs.Rules.{Outcome, andThen, withNet, opened, opens, ownProposal, proposed, nextNumber, proposesFast, received, slowNumber, proposesSlow}
 use Rattle.rules.specs.Rules.{viewOf, concluded, netAfter}
 use Rattle.rules.specs.Refusals.{Event, aReport, aProposal, eventOf, ruleOf}
-use Rattle.rules.proofs.Walk.{Walk, walk-event}
+use Rattle.rule_laws.proofs.Walk.{Walk, walk-event}
 
 pub record Shaped (s : State) : Type 0 where
   pub stored : length (s .stored) ≡ 16

@@ -14,14 +14,14 @@ use Rattle.offices.specs.Offices.{serves}
 use Rattle.records.specs.declared.Notice.{Notice}
 use Rattle.records.specs.declared.View.{View}
 use Rattle.records.specs.declared.Proposal.{Proposal}
 use Rattle.rules.specs.State.{Fast, State, storedAt, acceptedAt, numberIn}
 use Rattle.rules.specs.Refusals.{Event, aReport, aProposal, eventOf, refusalOf, ruleOf, stepOf}
-use Rattle.rules.proofs.Tests.{next-above, slow-above}
-use Rattle.rules.proofs.Walk.{arrived, concludes, Walk, walk-event}
-use Rattle.rules.proofs.Steps.{check-facts, Refused, Accepts, step-cases, step-accepts}
+use Rattle.rule_laws.proofs.Tests.{next-above, slow-above}
+use Rattle.rule_laws.proofs.Walk.{arrived, concludes, Walk, walk-event}
+use Rattle.rule_laws.proofs.Steps.{check-facts, Refused, Accepts, step-cases, step-accepts}
 use Rattle.rules.specs.Rules.{Written, notice, proposal, view, Outcome, nothingWritten, andThen, withNet, opened, opens}
 use Rattle.rules.specs.Rules.{nextNumber, ownProposal, proposed, hasRecipient, proposesFast, received, proposesSlow}
 use Rattle.rules.specs.Rules.{agreed, concluded}
 
 -- the number of a new proposal is above the stored numbers of the net view's offices
 pub next-above-stored : (s : State) (o : ℕ) → o < 16 → serves (s .net .bits) o ≡ true → numberIn (storedAt s o) < nextNumber s
