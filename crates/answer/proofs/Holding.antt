@@ -12,7 +12,7 @@ use Rattle.rule_laws.proofs.Steps.{fresh-well, step-well}
 use Rattle.row.specs.Row.{Row, rowLength, stateOf}
 use Rattle.row.proofs.Low.{is-row}
 use Rattle.fresh.specs.Fresh.{MadeRow, freshRow}
-use Rattle.step.specs.Step.{inRow, stepRow, Stepped}
+use Rattle.record_step.specs.Step.{inRow, stepRow, Stepped}
 use Rattle.lines.specs.Lines.{textOf}
 use Rattle.answer.specs.Held.{Sound, Handed, StateMade}
 

@@ -3,7 +3,7 @@ use mathlib.Core.Path.{_≡_}
 use mathlib.Core.List.{List}
 use Prim.Native.Nat.{ℕ}
 use lib.ListN.{length}
-use Rattle.step.specs.Step.{stepRow, Stepped}
+use Rattle.record_step.specs.Step.{stepRow, Stepped}
 use Rattle.office_calls.specs.Calls.{answerNumber, callOf}
 
 pub call-is : (ws b o : List ℕ) (refusal written : ℕ) (ws′ o′ : List ℕ) (r : ℕ) → Stepped (stepRow ws b (length o)) o refusal written ws′ o′

@@ -4,7 +4,7 @@ use Prim.Native.Nat.{ℕ, _+_, _*_}
 use lib.ListN.{length}
 use lib.Seq.{sets}
 use Rattle.rules.specs.Refusals.{allBytes, size}
-use Rattle.step.specs.Step.{RowResult, stepRow}
+use Rattle.record_step.specs.Step.{RowResult, stepRow}
 
 pub record Called : Type 0 where
   pub answer : ℕ

@@ -8,8 +8,8 @@ use lib.Seq.{length-sets}
 use Rattle.records.specs.Write.{Placed}
 use Rattle.rules.specs.State.{State}
 use Rattle.rules.specs.Rules.{Written, Outcome, nothingWritten, andThen}
-use Rattle.rules.specs.Refusals.{bytesOf, size}
-use Rattle.rule_laws.proofs.Sizes.{size-append}
+use Rattle.rules.specs.Refusals.{Event, ruleOf, bytesOf, size, fullRoom}
+use Rattle.rule_laws.proofs.Sizes.{size-append, event-size}
 use Rattle.row.specs.Row.{Row, stateOf}
 use Rattle.row.specs.Changes.{Changed}
 use Rattle.parts.specs.Did.{Did, Fits}
@@ -77,6 +77,13 @@ did-length d = ap length (d .written .output) ∙ simp length-sets
 
 pub fits-as : (f g : State → Outcome) (ws out : List ℕ) (at : ℕ) → f (stateOf ws) ≡ g (stateOf ws) → Fits g ws out at → Fits f ws out at
 fits-as f g ws out at e room = rw e room
+
+-- what an event writes has room in 182 bytes
+pub event-fits : (part : State → Outcome) (s t : State) (e : Event) (room : ℕ) → part t ≡ ruleOf s e → fullRoom ≤ room → 0 + size (part t .written) ≤ room
+event-fits part s t e room q le =
+    let h = event-size s e in
+    let f = ap (λ (o : Outcome). size (o .written)) q in
+    omega arith
 
 module _ (f g : State → Outcome) (ws out : List ℕ) (at : ℕ) (room : Fits (λ s. andThen (f s) g) ws out at) where
   both : size (andThen (f (stateOf ws)) g .written) ≡ size (f (stateOf ws) .written) + size (g (f (stateOf ws) .state) .written)

@@ -18,7 +18,7 @@ use Rattle.rule_laws.proofs.Exits.{no-bytes, room-enough}
 use Rattle.rule_laws.proofs.Shapes.{event-shaped, read-sixteen}
 use Rattle.row.specs.Row.{Row, stateOf, wordsOf, isRow}
 use Rattle.row.proofs.Low.{is-row}
-use Rattle.step.specs.Step.{RowResult, stepRow, Stepped}
+use Rattle.record_step.specs.Step.{RowResult, stepRow, Stepped}
 use Rattle.row.proofs.Words.{state-shaped}
 use Rattle.row.proofs.Holds.{Holds, shaped-holds}
 

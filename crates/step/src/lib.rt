@@ -1,46 +1,11 @@
 // The step: what comes of any bytes on any row of words, in place.
-use proposals::read_proposal;
-use reports::read_report;
-use step_answer::accept;
+use record_step::on_record;
 use step_answer::refuse;
-ghost use mathlib.Core.Path.{_≡_};
 ghost use lib.ListN.{length};
-ghost use Rattle.reports.specs.Read.{readReport};
-ghost use Rattle.step.specs.Step.{Ready, Stepped, stepRow};
+ghost use Rattle.record_step.specs.Step.{Stepped, stepRow};
 pub use fresh::fresh;
 pub use row::WORDS;
 pub use step_answer::Answer;
-
-// A record that has no report's mark, once checks 2 and 3 are passed.
-fn on_proposal(state: &mut [u32], low: bool, record: &[u8], out: &mut [u8]) -> Answer
-    requires { ⌜ Ready (now state) low (length (now out)) × (readReport (now «record») .refusal ≡ 4) ⌝ }
-    ensures { λ r. ⌜ Stepped (stepRow (now (state .entry)) (now («record» .entry)) (length (now (out .entry)))) (now (out .entry))
-        (r .refusal) (r .written) (now (state .exit)) (now (out .exit)) ⌝ }
-{
-    let read = read_proposal(record);
-    let refusal = trial::proposal(state, low, read.refusal, read.proposal);
-    if refusal != 0 {
-        return refuse(refusal);
-    }
-    accept(membership::act_on_proposal(state, read.proposal, out))
-}
-
-// A record, once checks 2 and 3 are passed. 4 from the reader of reports says that it has another mark.
-fn on_record(state: &mut [u32], low: bool, record: &[u8], out: &mut [u8]) -> Answer
-    requires { ⌜ Ready (now state) low (length (now out)) ⌝ }
-    ensures { λ r. ⌜ Stepped (stepRow (now (state .entry)) (now («record» .entry)) (length (now (out .entry)))) (now (out .entry))
-        (r .refusal) (r .written) (now (state .exit)) (now (out .exit)) ⌝ }
-{
-    let read = read_report(record);
-    if read.refusal == 4 {
-        return on_proposal(state, low, record, out);
-    }
-    let refusal = trial::report(state, low, read.refusal, read.report);
-    if refusal != 0 {
-        return refuse(refusal);
-    }
-    accept(membership::act_on_report(state, read.report, out))
-}
 
 // A refusal leaves every word and byte as it was; acceptance leaves the words of the state that the rules leave.
 pub fn step(state: &mut [u32], record: &[u8], out: &mut [u8]) -> Answer

@@ -23,7 +23,7 @@ fn report_within(state: &[u32], low: bool, r: Report) -> bool
     let mut tried = [0u32; row::WORDS];
     let mut bytes = [0u8; ROOM];
     row_changes::copy(state, &mut tried);
-    membership::act_on_report(&mut tried, r, &mut bytes);
+    on_report::act_on_report(&mut tried, r, &mut bytes);
     made_within(&tried)
 }
 
@@ -38,7 +38,7 @@ fn proposal_within(state: &[u32], low: bool, p: Proposal) -> bool
     let mut tried = [0u32; row::WORDS];
     let mut bytes = [0u8; ROOM];
     row_changes::copy(state, &mut tried);
-    membership::act_on_proposal(&mut tried, p, &mut bytes);
+    on_proposal::act_on_proposal(&mut tried, p, &mut bytes);
     made_within(&tried)
 }
 

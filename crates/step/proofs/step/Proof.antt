@@ -1,7 +1,8 @@
 use mathlib.Core.Path.{sym, _∙_}
 use lib.ListN.{length}
 use Rattle.checks.proofs.Readiness.{ready-facts}
-use Rattle.step.proofs.Exits.{refuse-meets, exit-unready}
+use Rattle.record_step.proofs.Exits.{refuse-meets}
+use Rattle.step.proofs.Unready.{exit-unready}
 use borrow.Author.Needs.{needs}
 use Rattle.step.proofs.step.Statement.{statement}
 use Rattle.step.proofs.step.Tie as tie

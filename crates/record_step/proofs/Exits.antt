@@ -1,10 +1,9 @@
--- The step's result at each of its exits.
+-- The step's result at each of its exits behind checks 2 and 3.
 use mathlib.Core.Path.{_≡_, refl, sym, ap, _∙_}
-use mathlib.Core.Bool.{Bool, true, false}
+use mathlib.Core.Bool.{Bool, true}
 use mathlib.Core.List.{List, []}
 use Prim.Native.Nat.{ℕ, _<_}
 use native.Mathlib.Omega.{arith}
-use native.Mathlib.Decide.{decLt}
 use lib.ListN.{getD}
 use borrow.Author.Tests.{ne-eqb}
 use Rattle.records.specs.Layout.{checkOf}
@@ -15,19 +14,17 @@ use Rattle.reports.specs.declared.ReportRead.{ReportRead}
 use Rattle.proposals.specs.declared.ProposalRead.{ProposalRead}
 use Rattle.reports.proofs.Reading.{report-refusal, report-decoded}
 use Rattle.proposals.proofs.Reading.{proposal-refusal, proposal-decoded}
-use Rattle.rules.specs.Refusals.{fullRoom, wellFormed, Event, aReport, aProposal, eventOf, ruleOf, refused, stepOf}
+use Rattle.rules.specs.Refusals.{Event, aReport, aProposal, eventOf, ruleOf, refused, stepOf}
 use Rattle.rule_laws.proofs.Steps.{Accepts, AcceptsEvent, zero-accepts, step-accepts, refused-keeps}
-use Rattle.rule_laws.proofs.Exits.{exit-2, exit-3, report-read, proposal-read, no-bytes}
+use Rattle.rule_laws.proofs.Exits.{report-read, proposal-read, no-bytes}
 use Rattle.row.specs.Row.{stateOf, isRow, word}
-use Rattle.row.proofs.Low.{is-row, not-sound, sound-words, sound-row, sound-well}
+use Rattle.row.proofs.Low.{is-row, sound-row, sound-well}
 use Rattle.row.proofs.Words.{row-words}
 use Rattle.parts.specs.Did.{Did}
-use Rattle.checks.specs.Checks.{unready}
-use Rattle.checks.proofs.Readiness.{unready-2, unready-3, unready-0}
 use Rattle.trial.specs.Tried.{refusalFrom}
 use Rattle.trial.proofs.Refusal.{step-refusal}
 use Rattle.step_answer.specs.declared.Answer.{Answer}
-use Rattle.step.specs.Step.{RowResult, inRow, stepRow, Stepped, Ready}
+use Rattle.record_step.specs.Step.{RowResult, inRow, stepRow, Stepped, Ready}
 
 -- what a reader told of bytes: their number by checks 4 and 5, and the event where that is 0
 pub record ReadAs (b : List ℕ) (n : ℕ) (e : Event) : Type 0 where
@@ -59,19 +56,8 @@ module _ (ws b : List ℕ) (room : ℕ) where
   unfolding stepRow
   on-row r = rw r
 
-  row-refused : isRow ws ≡ true → (n : ℕ) → (n ≡ 0 → ⊥) → stepOf (stateOf ws) b room ≡ refused n (stateOf ws) → stepRow ws b room ≡ kept n ws
+  pub row-refused : isRow ws ≡ true → (n : ℕ) → (n ≡ 0 → ⊥) → stepOf (stateOf ws) b room ≡ refused n (stateOf ws) → stepRow ws b room ≡ kept n ws
   row-refused r n h e = on-row r ∙ rw (e, ne-eqb n 0 h)
-
-  -- checks 2 and 3
-  pub exit-unready : (n : ℕ) → n ≡ unready ws room → (n ≡ 0 → ⊥) → stepRow ws b room ≡ kept n ws
-  unfolding stepRow
-  exit-unready n e h = rw e (go (isRow ws) (wellFormed (stateOf ws)) (decLt room fullRoom) refl refl)
-    where
-      go : (r w : Bool) → Dec (room < fullRoom) → isRow ws ≡ r → wellFormed (stateOf ws) ≡ w → stepRow ws b room ≡ kept (unready ws room) ws
-      go false w l x y = rw (x, unready-2 ws room (not-sound ws x))
-      go true false l x y = rw (unready-2 ws room (sound-words ws x ∙ y)) (row-refused x 2 (omega arith) (exit-2 (stateOf ws) b room y))
-      go true true (yes l) x y = rw (unready-3 ws room (sound-words ws x ∙ y) l) (row-refused x 3 (omega arith) (exit-3 (stateOf ws) b room y l))
-      go true true (no l) x y = absurd (h (e ∙ unready-0 ws room (sound-words ws x ∙ y) (omega arith)))
 
   -- what was read, and the refusal that was found for it: the step's
   module _ {low : Bool} (ready : Ready ws low room) {n : ℕ} {e : Event} (told : ReadAs b n e) (m : ℕ) (found : m ≡ refusalFrom n (stateOf ws) e) where

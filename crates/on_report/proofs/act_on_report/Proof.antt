@@ -11,10 +11,10 @@ use Rattle.row.specs.Row.{stateOf}
 use Rattle.row.specs.Changes.{withNetSet}
 use Rattle.parts.specs.Parts.{fastRound}
 use Rattle.parts.proofs.Bounding.{well-bounded, net-bounded}
-use Rattle.parts.proofs.Dids.{did-as, did-after, did-quiet}
-use Rattle.membership.proofs.Outcomes.{event-fits, net-after, net-seated, report-left, report-seated}
-use Rattle.membership.proofs.act_on_report.Statement.{statement}
-use Rattle.membership.proofs.act_on_report.Tie as tie
+use Rattle.parts.proofs.Dids.{did-as, did-after, did-quiet, event-fits}
+use Rattle.on_report.proofs.Outcomes.{net-after, net-seated, report-left, report-seated}
+use Rattle.on_report.proofs.act_on_report.Statement.{statement}
+use Rattle.on_report.proofs.act_on_report.Tie as tie
 
 -- the net view after the report
 changed : (c : tie.After-without) → c .without .result .bits ≡ netAfter (stateOf (c .before .before .before .before .before .before .args .s .now) .net .bits) (c .before .before .before .before .before .before .args .r)

@@ -1,31 +1,20 @@
-// What an accepted event does, inner to the layer of the step: the rules on the row of words of one office in one room, changed in place,
+// What an accepted report does, inner to the layer of the step: the rule on the row of words of one office in one room, changed in place,
 // and the records written behind one another.
-use agreement::agreement_test;
 use fast_proposal::proposes_fast;
 use offices::serves;
 use parts::opens;
-use parts::receive;
-use records::Proposal;
 use records::Report;
-use slow_test::slow_test;
+use round_tests::tests;
 ghost use mathlib.Core.Bool.{true};
 ghost use mathlib.Core.Path.{_≡_};
-ghost use Prim.Native.Nat.{_≤_, _<_};
+ghost use Prim.Native.Nat.{_≤_};
 ghost use lib.ListN.{length};
-ghost use Rattle.rules.specs.Rules.{seated, tests, reportRule, proposalRule};
+ghost use Rattle.rules.specs.Rules.{seated, reportRule};
 ghost use Rattle.rules.specs.Refusals.{limit, fullRoom, wellFormed};
 ghost use Rattle.row.specs.Row.{Row, stateOf};
 ghost use Rattle.parts.specs.Did.{Did, Fits};
-ghost use Rattle.parts.specs.Bounds.{early, Bounded};
+ghost use Rattle.parts.specs.Bounds.{Bounded};
 ghost use Rattle.parts.specs.Parts.{fastRound};
-
-fn tests(s: &mut [u32], out: &mut [u8], at: usize) -> usize
-    requires { ⌜ Row (now s) × Bounded early (stateOf (now s)) × Fits tests (now s) (now out) at ⌝ }
-    ensures { λ n. ⌜ Did tests (now (s .entry)) (now (out .entry)) at (now (s .exit)) (now (out .exit)) n ⌝ }
-{
-    let next = slow_test(s, out, at);
-    agreement_test(s, out, next)
-}
 
 // A report at an office with a seat in the net view.
 fn fast_round(s: &mut [u32], out: &mut [u8]) -> usize
@@ -49,18 +38,4 @@ pub fn act_on_report(s: &mut [u32], r: Report, out: &mut [u8]) -> usize
         return 0;
     }
     fast_round(s, out)
-}
-
-pub fn act_on_proposal(s: &mut [u32], p: Proposal, out: &mut [u8]) -> usize
-    requires { ⌜ Row (now s) × (wellFormed (stateOf (now s)) ≡ true) × (fullRoom ≤ length (now out)) ⌝ }
-    requires { ⌜ (p .sender < 16) × (p .start ≤ limit) × (p .number ≤ limit) ⌝ }
-    ensures { λ n. ⌜ Did (λ u. proposalRule u p) (now (s .entry)) (now (out .entry)) 0 (now (s .exit)) (now (out .exit)) n ⌝ }
-{
-    let net = row::net(s);
-    let members = p.members;
-    receive(s, p);
-    if !members.equals(net) {
-        return 0;
-    }
-    tests(s, out, 0)
 }

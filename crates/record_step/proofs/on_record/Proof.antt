@@ -4,10 +4,10 @@ use lib.ListN.{length}
 use Rattle.reports.specs.declared.ReportRead.{ReportRead}
 use Rattle.rules.specs.Refusals.{aReport}
 use Rattle.row.proofs.Low.{sound-well, sound-row}
-use Rattle.step.proofs.Exits.{ReadAs, report-told, refuse-meets, exit-refused, accept-meets}
+use Rattle.record_step.proofs.Exits.{ReadAs, report-told, refuse-meets, exit-refused, accept-meets}
 use borrow.Author.Needs.{needs}
-use Rattle.step.proofs.on_record.Statement.{statement}
-use Rattle.step.proofs.on_record.Tie as tie
+use Rattle.record_step.proofs.on_record.Statement.{statement}
+use Rattle.record_step.proofs.on_record.Tie as tie
 
 -- what the reader told
 told : (c : tie.Else1) → let r = c .before .before .read-report .result in ReadAs (c .before .before .before .before .before .before .args .«record» .now) (r .refusal) (aReport (r .report))

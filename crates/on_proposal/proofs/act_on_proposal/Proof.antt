@@ -9,10 +9,10 @@ use Rattle.row.specs.Row.{stateOf}
 use Rattle.parts.specs.Bounds.{early}
 use Rattle.parts.specs.Parts.{receiving}
 use Rattle.parts.proofs.Bounding.{well-bounded, received-bounded, bounded-le}
-use Rattle.parts.proofs.Dids.{did-as, did-after, did-quiet}
-use Rattle.membership.proofs.Outcomes.{event-fits, proposal-other, proposal-same}
-use Rattle.membership.proofs.act_on_proposal.Statement.{statement}
-use Rattle.membership.proofs.act_on_proposal.Tie as tie
+use Rattle.parts.proofs.Dids.{did-as, did-after, did-quiet, event-fits}
+use Rattle.on_proposal.proofs.Outcomes.{proposal-other, proposal-same}
+use Rattle.on_proposal.proofs.act_on_proposal.Statement.{statement}
+use Rattle.on_proposal.proofs.act_on_proposal.Tie as tie
 
 -- the members are the net view
 same : (c : tie.Else1) → tests (receiving (c .before .before .before .before .before .before .before .before .before .before .before .args .p) (stateOf (c .before .before .before .before .before .before .before .before .before .before .before .args .s .now))) ≡ proposalRule (stateOf (c .before .before .before .before .before .before .before .before .before .before .before .args .s .now)) (c .before .before .before .before .before .before .before .before .before .before .before .args .p)

@@ -4,10 +4,10 @@ use Rattle.rules.specs.Refusals.{aProposal}
 use Rattle.rule_laws.proofs.Steps.{check-facts}
 use Rattle.row.specs.Row.{stateOf}
 use Rattle.row.proofs.Low.{sound-well, sound-row}
-use Rattle.step.proofs.Exits.{ReadAs, proposal-told, refuse-meets, exit-refused, accepts-event, accept-meets}
+use Rattle.record_step.proofs.Exits.{ReadAs, proposal-told, refuse-meets, exit-refused, accepts-event, accept-meets}
 use borrow.Author.Needs.{needs}
-use Rattle.step.proofs.on_proposal.Statement.{statement}
-use Rattle.step.proofs.on_proposal.Tie as tie
+use Rattle.record_step.proofs.on_proposal.Statement.{statement}
+use Rattle.record_step.proofs.on_proposal.Tie as tie
 
 -- what the reader told
 told : (c : tie.After-read-proposal) → let r = c .read-proposal .result in ReadAs (c .before .before .before .before .args .«record» .now) (r .refusal) (aProposal (r .proposal))

@@ -12,8 +12,8 @@ use Rattle.parts.specs.Bounds.{early, reach, Bounded}
 use Rattle.parts.specs.Did.{Fits}
 use Rattle.parts.proofs.Bounding.{bounded-le, opens-bounded, fast-bounded}
 use Rattle.parts.proofs.Dids.{did-then, fits-first, fits-second}
-use Rattle.membership.proofs.fast_round.Statement.{statement}
-use Rattle.membership.proofs.fast_round.Tie as tie
+use Rattle.on_report.proofs.fast_round.Statement.{statement}
+use Rattle.on_report.proofs.fast_round.Tie as tie
 
 abbrev later : State → Outcome
 later s = andThen (proposesFast s) tests

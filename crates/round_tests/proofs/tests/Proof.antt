@@ -6,9 +6,9 @@ use Rattle.parts.specs.Bounds.{early, reach}
 use Rattle.parts.specs.Did.{Fits}
 use Rattle.parts.proofs.Bounding.{bounded-le, slowTest-bounded}
 use Rattle.parts.proofs.Dids.{did-as, did-then, fits-as, fits-first, fits-second}
-use Rattle.membership.proofs.Outcomes.{tests-is}
-use Rattle.membership.proofs.tests.Statement.{statement}
-use Rattle.membership.proofs.tests.Tie as tie
+use Rattle.round_tests.proofs.Outcomes.{tests-is}
+use Rattle.round_tests.proofs.tests.Statement.{statement}
+use Rattle.round_tests.proofs.tests.Tie as tie
 
 room : (c : tie.Start) → Fits (λ s. andThen (slowTest s) agreementTest) (c .args .s .now) (c .args .out .now) (c .args .at)
 room c = fits-as (λ s. andThen (slowTest s) agreementTest) tests (c .args .s .now) (c .args .out .now) (c .args .at) (tests-is _) (c .pre .2)

@@ -1,2 +1,0 @@
--- What the functions of this crate say of an event.
-pub use Rattle.parts.specs.Did.{Appended, Did, Fits}
