@@ -1,5 +1,5 @@
 /* A small office: office 0 makes its state, is handed the records of an ordinary morning, and says in words what it is told to
- * send. Link with libroom.a. */
+ * send and whom it waits for. Link with libroom.a. */
 #include "room.h"
 
 #include <stdio.h>
@@ -76,16 +76,28 @@ static void say_written(const uint8_t *out, size_t written) {
     }
 }
 
+static void say_waiting(const uint32_t *state) {
+    uint32_t answer = room_waiting_for(state, ROOM_STATE_WORDS);
+    if (answer % 256 != 0) {
+        printf("  no state: %u\n", (unsigned)(answer % 256));
+    } else if (answer / 256 < 16) {
+        printf("  we wait for office %u\n", (unsigned)(answer / 256));
+    } else {
+        printf("  we wait for nobody\n");
+    }
+}
+
 /* One record handed in. */
 static void hand(uint32_t *state, const char *what, const uint8_t *record, size_t length, size_t room) {
     uint8_t out[ROOM];
     uint32_t answer = room_step(state, ROOM_STATE_WORDS, record, length, out, room);
     if (answer % 256 != 0) {
         printf("%s: refused, %u\n", what, (unsigned)(answer % 256));
-        return;
+    } else {
+        printf("%s: %u bytes\n", what, (unsigned)(answer / 256));
+        say_written(out, answer / 256);
     }
-    printf("%s: %u bytes\n", what, (unsigned)(answer / 256));
-    say_written(out, answer / 256);
+    say_waiting(state);
 }
 
 static void make_report(uint8_t *record, uint64_t joining, uint64_t leaving) {

@@ -47,6 +47,14 @@ uint8_t room_fresh(uint8_t office, uint32_t *state, size_t words);
  * those written is. The record is only read. */
 uint32_t room_step(uint32_t *state, size_t words, const uint8_t *record, size_t length, uint8_t *out, size_t room);
 
+/* Whom the office of a state waits for. The answer is 256 x a value + the refusal or 0:
+ *   answer / 256  0 to 15  the lowest-numbered office of the net view without the proposal that the agreement test asks for
+ *                 16       none lacks it: the test is met, as it is in no state that room_fresh and room_step have made
+ *                 17       nobody: the mode is none, or the office has no seat in the net view; and with the refusal
+ *   answer % 256  2 where `words` is not ROOM_STATE_WORDS or the words are no state, else 0
+ * The words are only read. */
+uint32_t room_waiting_for(const uint32_t *state, size_t words);
+
 #ifdef __cplusplus
 }
 #endif

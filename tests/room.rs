@@ -1,6 +1,7 @@
 // The program `room` beside the model, on plays of several offices and on damaged, cut and long inputs. `trace` prints the same
 // lines with the bytes written behind them. Arguments: the two programs. A case passes when all of its inputs agree; the first that
 // does not is kept as target/tests/room.input.
+#[allow(dead_code)]
 #[path = "common/model.rs"]
 mod model;
 #[path = "common/play.rs"]

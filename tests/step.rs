@@ -1,5 +1,7 @@
 // The calls for C that make and change a state, beside the model: every answer, every word and every byte. Each case is a
 // kind of input; it passes when the two agree on all of its inputs.
+#[path = "common/inputs.rs"]
+mod inputs;
 #[allow(dead_code)]
 #[path = "common/model.rs"]
 mod model;
@@ -9,11 +11,14 @@ mod play;
 mod random;
 #[path = "common/rows.rs"]
 mod rows;
+#[path = "common/verdicts.rs"]
+mod verdicts;
 
-use model::{mark_length, offices, report, Proposal, FAST, L, ROOM, SLOW};
-use play::{Habits, Play};
+use inputs::{a_play, change, some};
+use model::{offices, report, Proposal, FAST, L, ROOM, SLOW};
 use random::Random;
 use rows::WORDS;
+use verdicts::Verdicts;
 
 #[link(name = "room", kind = "static")]
 extern "C" {
@@ -90,20 +95,10 @@ impl Compared<'_> {
 struct Tally {
     reached: Reached,
     inputs: u64,
-    passed: u64,
-    failed: u64,
+    verdicts: Verdicts,
 }
 
 impl Tally {
-    fn check(&mut self, name: &str, holds: bool) {
-        if holds {
-            self.passed += 1;
-        } else {
-            println!("{name}: does not hold");
-            self.failed += 1;
-        }
-    }
-
     fn case(&mut self, name: &str, run: impl FnOnce(&mut Compared)) -> u64 {
         let mut compared = Compared {
             row: Vec::new(),
@@ -119,77 +114,8 @@ impl Tally {
         let (inputs, wrong) = (compared.inputs, compared.wrong);
         println!("{name}: {inputs} compared");
         self.inputs += inputs;
-        self.check(name, wrong == 0 && inputs > 0);
+        self.verdicts.check(name, wrong == 0 && inputs > 0);
         inputs
-    }
-}
-
-fn habits(random: &mut Random) -> Habits {
-    let (forged, damaged) = match random.below(3) {
-        0 => (0, 0),
-        1 => (100 + random.below(400), random.below(60)),
-        _ => (random.below(200), 200 + random.below(300)),
-    };
-    Habits { change: 4 + random.below(40), own_report: random.below(40), loss: random.below(20), swap: random.below(20), forged, damaged }
-}
-
-// The office of a play and the records that it is handed.
-fn a_play(random: &mut Random, records: usize) -> (usize, Vec<Vec<u8>>) {
-    let pool = random.next() & random.next() | 0xff;
-    let all: Vec<usize> = offices(pool).collect();
-    let kept = all[random.below(all.len())];
-    let habits = habits(random);
-    let mut play = Play::new(Random(random.next() | 1), habits, pool, kept);
-    play.go(records);
-    let mut rest = &play.input[1..];
-    let mut handed = Vec::new();
-    while !rest.is_empty() {
-        let (record, more) = rest.split_at(mark_length(rest).unwrap());
-        handed.push(record.to_vec());
-        rest = more;
-    }
-    (kept, handed)
-}
-
-fn some<T: Copy>(random: &mut Random, of: &[T]) -> T {
-    of[random.below(of.len())]
-}
-
-// One word of a row changed: numbers about L and about the numbers there, modes, presence, what stands behind an empty slot, sets at will.
-fn change(random: &mut Random, row: &mut [u32]) {
-    let o = random.below(16);
-    let low = (1 << 30) - 1;
-    let near = row[rows::NUMBER];
-    let any = random.next() as u32;
-    match random.below(16) {
-        0 => row[rows::MODE] = some(random, &[0, 1, 2, 0, 1, 2, 3, u32::MAX]),
-        1 => row[rows::slot(o)] = some(random, &[0, 1, 0, 1, 1, 2, u32::MAX]),
-        2 => row[rows::OWN] = some(random, &[o as u32, 15, 0, 16, 256]),
-        3 => row[rows::slot(o) + 1] = any,
-        4 => row[rows::slot(o) + 2] = some(random, &[0, 1, 2, 3, 257, 258, u32::MAX]),
-        5 => {
-            let at = rows::NET + random.below(4);
-            row[at] = some(random, &[0, any, row[rows::NET], 1 << (any % 32)]);
-        }
-        6 => row[rows::slot(o) + 3 + random.below(2)] = some(random, &[0, row[rows::NET], row[rows::NET + 1], any]),
-        7 => row[some(random, &[rows::START, rows::NUMBER, rows::VIEW_NUMBER])] = some(random, &[L - 2, L - 1, L, low, low + 1]),
-        8 => {
-            let at = rows::slot_numbers(o) + random.below(2);
-            row[at] = some(random, &[L - 1, L, low, low + 1, near, near + 1]);
-        }
-        9 => {
-            // behind an empty slot any word stands
-            if let Some(o) = (0..16).map(|k| (o + k) % 16).find(|&o| row[rows::slot(o)] == 0) {
-                let at = rows::slot_numbers(o) + random.below(18);
-                row[at] = any;
-            }
-        }
-        10 => row[rows::ACCEPTED + o] = some(random, &[0, L, near]),
-        11 => row[rows::START + random.below(WORDS - rows::START)] = some(random, &[L + 1, u32::MAX]),
-        _ => {
-            let at = rows::START + random.below(WORDS - rows::START);
-            row[at] = some(random, &[L, L - 1, 0, near, near + 1, low]);
-        }
     }
 }
 
@@ -231,10 +157,10 @@ fn making() -> bool {
 }
 
 fn main() {
-    let mut tally = Tally { reached: Reached([0; 14]), inputs: 0, passed: 0, failed: 0 };
+    let mut tally = Tally { reached: Reached([0; 14]), inputs: 0, verdicts: Verdicts::default() };
     let t = &mut tally;
 
-    t.check("every office in words of every length", making());
+    t.verdicts.check("every office in words of every length", making());
 
     let mut r = Random(0x9e37_79b9_7f4a_7c15);
     let compared = t.case("the records of plays", |c| {
@@ -246,7 +172,7 @@ fn main() {
             }
         }
     });
-    t.check("half a million records", compared >= 500_000);
+    t.verdicts.check("half a million records", compared >= 500_000);
 
     let (mut changed, mut passed) = (0, 0);
     t.case("rows of plays with none, one or two words changed", |c| {
@@ -272,7 +198,7 @@ fn main() {
         }
     });
     println!("{changed} rows, {passed} of them pass check 2");
-    t.check("half of the rows pass check 2", changed >= 100_000 && 2 * passed >= changed);
+    t.verdicts.check("half of the rows pass check 2", changed >= 100_000 && 2 * passed >= changed);
 
     t.case("a row near the ceiling, record after record", |c| {
         let mut r = Random(3);
@@ -345,8 +271,7 @@ fn main() {
 
     let reached = t.reached.0;
     println!("answers: {}", (0..14).map(|n| format!("{n}: {}", reached[n])).collect::<Vec<_>>().join(", "));
-    t.check("each answer but 1 was reached", (0..14).all(|n| n == 1 || reached[n] > 0));
+    t.verdicts.check("each answer but 1 was reached", (0..14).all(|n| n == 1 || reached[n] > 0));
     println!("step: {} inputs compared", tally.inputs);
-    println!("{} passed, {} failed", tally.passed, tally.failed);
-    std::process::exit((tally.failed != 0) as i32);
+    tally.verdicts.end();
 }

@@ -115,6 +115,15 @@ pub enum Mode {
     Slow,
 }
 
+// The answers to the question whom an office waits for.
+#[derive(Clone, Copy, PartialEq)]
+pub enum Waiting {
+    Refused(u8),
+    Nobody,
+    Met,
+    Office(usize),
+}
+
 #[derive(Clone, Copy)]
 pub struct Office {
     pub own: usize,
@@ -157,7 +166,7 @@ impl Office {
 
     // Reasons to refuse, 2 to 12.
     fn refusal(&self, record: &[u8], room: usize) -> u8 {
-        if self.own > 15 || self.numbers().any(|n| n > L) {
+        if self.malformed() {
             return 2;
         }
         if room < ROOM {
@@ -191,6 +200,10 @@ impl Office {
         }
     }
 
+    fn malformed(&self) -> bool {
+        self.own > 15 || self.numbers().any(|n| n > L)
+    }
+
     fn numbers(&self) -> impl Iterator<Item = u32> + '_ {
         let stored = self.stored.iter().flatten().flat_map(|p| p.used.into_iter().chain([p.start, p.number]));
         let own = [self.view.number, self.start, self.number].into_iter();
@@ -217,12 +230,31 @@ impl Office {
         }
     }
 
-    fn agreed(&self) -> bool {
-        offices(self.net).all(|o| match (&self.stored[o], self.mode) {
+    // The proposal of an office that the agreement test asks for is there.
+    fn agrees(&self, o: usize) -> bool {
+        match (&self.stored[o], self.mode) {
             (Some(p), Mode::Fast) => p.kind == FAST && p.members == self.net,
             (Some(p), Mode::Slow) => p.kind == SLOW && p.members == self.net && p.number == self.number,
             _ => false,
-        })
+        }
+    }
+
+    fn agreed(&self) -> bool {
+        offices(self.net).all(|o| self.agrees(o))
+    }
+
+    // Change request 1. Every one of the sixteen is looked at.
+    pub fn waiting_for(&self) -> Waiting {
+        if self.malformed() {
+            Waiting::Refused(2)
+        } else if self.mode == Mode::None || !has_seat(self.net, self.own) {
+            Waiting::Nobody
+        } else if self.agreed() {
+            Waiting::Met
+        } else {
+            let without: Vec<usize> = (0..16).filter(|&o| has_seat(self.net, o) && !self.agrees(o)).collect();
+            Waiting::Office(*without.iter().min().unwrap())
+        }
     }
 }
 

@@ -4,6 +4,11 @@ use mathlib.Core.Logic.{_⊎_, inl, inr}
 use mathlib.Core.List.{List, [], _∷_, _++_, List·Memᴰ, List·Memᴰ·not-nil, List·Memᴰ·cases-cons}
 use Rattle.laws.specs.Lists.{runs, Every, none, more}
 
+-- lists entry by entry: an equal entry, then the rest. Where the entries are computed, each is compared by itself
+infixr 20 _then_
+pub _then_ : {A : Type 0} {a b : A} {l m : List A} → a ≡ b → l ≡ m → a ∷ l ≡ b ∷ m
+e then f = cc
+
 module _ {W E : Type 0} (step : W → E → W) where
   pub runs-append : (w : W) (a b : List E) → runs step w (a ++ b) ≡ runs step (runs step w a) b
   unfolding runs

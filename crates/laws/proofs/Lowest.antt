@@ -1,15 +1,18 @@
--- The lowest below n that passes a test: it passes, and none below it does. Trailing zeros find it.
+-- The lowest below n that passes a test: it passes, and none below it does. Going through all n finds the same; so do trailing zeros.
 use mathlib.Core.Path.{_≡_, refl, sym, ap, _∙_}
-use mathlib.Core.Bool.{Bool, true, false, true≢false}
-use Prim.Native.Nat.{ℕ, zero, suc, _/_, _%_, _≤_, _<_}
+use mathlib.Core.Bool.{Bool, true, false, not, true≢false}
+use Prim.Native.Nat.{ℕ, zero, suc, _/_, _%_, _≤_, _<_, min}
 use native.Mathlib.Omega.{arith}
-use native.Mathlib.Decide.{decLt}
+use native.Mathlib.Decide.{decLt, ℕ-discrete}
+use borrow.Author.Tests.{eq-eqb, ne-eqb}
 use lib.Dec.{eqb}
 use lib.Count.{trailingZeros, under}
 use Rattle.laws.specs.Bit.{bit}
-use Rattle.laws.specs.Lowest.{lowestBelow}
+use Rattle.laws.specs.Fin.{allb}
+use Rattle.laws.specs.Lowest.{lowestBelow, lowestOfAll}
 use Rattle.laws.specs.Upd.{ifb}
-use Rattle.laws.proofs.Fin.{if-cases}
+use Rattle.laws.proofs.Fin.{if-cases, allb-in}
+use Rattle.laws.proofs.Loops.{all-fails}
 
 pub lowest-le : (n : ℕ) (p : ℕ → Bool) → lowestBelow n p ≤ n
 unfolding lowestBelow
@@ -49,6 +52,47 @@ lowest-none n p f = go (decLt (lowestBelow n p) n)
     go : Dec (lowestBelow n p < n) → lowestBelow n p ≡ n
     go (yes a) = absurd (true≢false (sym (lowest-passes n p a) ∙ f (lowestBelow n p) a))
     go (no a) = let h = lowest-le n p in omega arith
+
+-- a number that passes, with none below it, is the lowest
+pub lowest-is : (n : ℕ) (p : ℕ → Bool) (k : ℕ) → k < n → p k ≡ true → ((j : ℕ) → j < k → p j ≡ false) → lowestBelow n p ≡ k
+lowest-is n p k l e f = go (decLt (lowestBelow n p) k) (decLt k (lowestBelow n p))
+  where
+    go : Dec (lowestBelow n p < k) → Dec (k < lowestBelow n p) → lowestBelow n p ≡ k
+    go (yes a) b = absurd (true≢false (sym (lowest-passes n p (omega arith)) ∙ f (lowestBelow n p) a))
+    go (no a) (yes b) = absurd (true≢false (sym e ∙ lowest-first n p k b))
+    go (no a) (no b) = omega arith
+
+-- where it is n, none passes
+pub lowest-end : (n : ℕ) (p : ℕ → Bool) → lowestBelow n p ≡ n → (k : ℕ) → k < n → p k ≡ false
+lowest-end n p e k l = lowest-first n p k (omega arith)
+
+pub none-lowest : (n : ℕ) (p : ℕ → Bool) → allb n (λ k. not (p k)) ≡ eqb (lowestBelow n p) n
+none-lowest n p = go (ℕ-discrete (lowestBelow n p) n)
+  where
+    go : Dec (lowestBelow n p ≡ n) → allb n (λ k. not (p k)) ≡ eqb (lowestBelow n p) n
+    go (yes e) = rw (eq-eqb _ _ e) (allb-in n _ (λ k l. rw (lowest-end n p e k l)))
+    go (no e) =
+        let h = lowest-le n p in
+        let l : lowestBelow n p < n = omega arith in
+        rw (ne-eqb _ _ e) (all-fails n _ (lowestBelow n p) l (rw (lowest-passes n p l)))
+
+-- tests that agree below n have one lowest
+pub lowest-same : (n : ℕ) (p q : ℕ → Bool) → ((k : ℕ) → k < n → p k ≡ q k) → lowestBelow n p ≡ lowestBelow n q
+unfolding lowestBelow
+lowest-same zero p q e = refl
+lowest-same (suc n) p q e =
+    rw (e 0 (omega arith), lowest-same n (λ k. p (suc k)) (λ k. q (suc k)) (λ k l. e (suc k) (omega arith)))
+
+-- going through all n finds the same
+pub lowest-of-all : (n : ℕ) (p : ℕ → Bool) → lowestBelow n p ≡ lowestOfAll n p
+unfolding lowestBelow lowestOfAll
+lowest-of-all zero p = refl
+lowest-of-all (suc n) p = go (p 0) (lowest-of-all n (λ k. p (suc k))) (lowest-le n (λ k. p (suc k)))
+  where
+    go : (t : Bool) → lowestBelow n (λ k. p (suc k)) ≡ lowestOfAll n (λ k. p (suc k)) → lowestBelow n (λ k. p (suc k)) ≤ n
+        → ifb t 0 (suc (lowestBelow n (λ k. p (suc k)))) ≡ min (ifb t 0 (suc n)) (suc (lowestOfAll n (λ k. p (suc k))))
+    go true e l = omega arith
+    go false e l = omega arith
 
 -- the zeros below the lowest digit that is set
 pub trailing-lowest : (n x : ℕ) → trailingZeros n x ≡ lowestBelow n (λ t. eqb (bit x t) 1)

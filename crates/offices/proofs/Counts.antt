@@ -9,7 +9,7 @@ use lib.Count.{onesIn, ones, ones-cat, ones-le, trailingZeros}
 use Rattle.laws.specs.Fin.{sum}
 use Rattle.laws.specs.Upd.{ifb}
 use Rattle.laws.proofs.Fin.{count-without}
-use Rattle.laws.proofs.Lowest.{lowest-passes, lowest-first, lowest-none, trailing-lowest}
+use Rattle.laws.proofs.Lowest.{lowest-le, lowest-passes, lowest-first, lowest-none, trailing-lowest}
 use Rattle.seats.specs.Seats.{has}
 use Rattle.offices.specs.Offices.{serves, packed, officesOf, countOf, lowestOf}
 use Rattle.seats.proofs.Laws.{has-empty, has-high, same-seats}
@@ -58,6 +58,10 @@ trailing-office b = trailing-lowest 16 b
 pub lowest-in : (b : ℕ) → lowestOf b < 16 → has b (lowestOf b) ≡ true
 unfolding lowestOf
 lowest-in b h = lowest-passes 16 (has b) h
+
+pub lowest-at-most : (b : ℕ) → lowestOf b ≤ 16
+unfolding lowestOf
+lowest-at-most b = lowest-le 16 (has b)
 
 pub none-lower : (b o : ℕ) → o < lowestOf b → has b o ≡ false
 unfolding lowestOf

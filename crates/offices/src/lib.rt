@@ -12,13 +12,11 @@ pub struct OfficeSet {
     pub count: u8,
 }
 
-impl OfficeSet {
-    // 16 where the set is empty.
-    pub fn lowest(self) -> u8
-        ensures { λ r. ⌜ r ≡ lowestOf (self .bits) ⌝ }
-    {
-        u16::trailing_zeros(self.bits) as u8
-    }
+// The lowest office of sixteen bits, 16 where none is set.
+pub fn lowest(bits: u16) -> u8
+    ensures { λ r. ⌜ r ≡ lowestOf bits ⌝ }
+{
+    u16::trailing_zeros(bits) as u8
 }
 
 // The four seats of each office fall onto its lowest one, and these sixteen bits close up by halves.

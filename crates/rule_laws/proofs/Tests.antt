@@ -204,7 +204,7 @@ module _ (s : State) where
       let k = kind-out o (and-l (agreesKind s o) _ c) in
       record { is-there = k .0; of-kind = k .1; same-members = k .2; own-number = λ f. eqb-true _ _ (and-r (agreesKind s o) _ c) }
 
-  agreeing-in : (m : Mode) (o : ℕ) → s .mode ≡ m → (m ≡ None → ⊥) → Agreeing o → agreesIn m s o ≡ true
+  pub agreeing-in : (m : Mode) (o : ℕ) → s .mode ≡ m → (m ≡ None → ⊥) → Agreeing o → agreesIn m s o ≡ true
   agreeing-in None o e n h = absurd (n refl)
   agreeing-in Fast o e n h = kind-in o h
   agreeing-in Slow o e n h = and-in _ _ (kind-in o h) (eq-eqb _ _ (h .own-number e))

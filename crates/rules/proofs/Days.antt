@@ -1,12 +1,7 @@
 -- The days of document 01, computed by the rules, are what it says.
 use mathlib.Core.Path.{_≡_, refl}
-use mathlib.Core.List.{List, _∷_}
+use Rattle.laws.proofs.Lists.{_then_}
 use Rattle.rules.specs.Days.{given, dayA, dayB, dayC, dayE, dayG, dayI, dayJ, dayK, lateStart, selfUsed, computed, stated, furtherComputed, furtherStated, refusals, reasons}
-
--- an equal entry, then the rest: each entry is compared by computing
-infixr 20 _then_
-_then_ : {A : Type 0} {a b : A} {l m : List A} → a ≡ b → l ≡ m → a ∷ l ≡ b ∷ m
-e then f = cc
 
 pub days : computed ≡ stated
 unfolding computed stated dayA dayB dayC dayE dayG dayI dayJ dayK given

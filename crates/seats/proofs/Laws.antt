@@ -44,13 +44,14 @@ has-and x y s =
     ap (λ (n : ℕ). eqb n 1) (bit-and x y s)
     ∙ digit-cases (λ a b. eqb (min a b) 1 ≡ eqb a 1 && eqb b 1) refl refl refl refl (bit x s) (bit y s) (bit-lt x s) (bit-lt y s)
 
-has-not : (y s : ℕ) → s < 64 → y < 2 ^ 64 → has (2 ^ 64 - 1 - y) s ≡ not (has y s)
+-- in a set of any width
+pub has-not : (w y s : ℕ) → s < w → y < 2 ^ w → has (2 ^ w - 1 - y) s ≡ not (has y s)
 unfolding has
-has-not y s h hy = ap (λ (n : ℕ). eqb n 1) (bit-not 64 s y h hy) ∙ not-digit (bit y s) (bit-lt y s)
+has-not w y s h hy = ap (λ (n : ℕ). eqb n 1) (bit-not w s y h hy) ∙ not-digit (bit y s) (bit-lt y s)
 
 pub has-without : (x y s : ℕ) → s < 64 → y < 2 ^ 64 → has (withoutOf x y) s ≡ has x s && not (has y s)
 unfolding withoutOf
-has-without x y s h hy = has-and x (2 ^ 64 - 1 - y) s ∙ ap (λ (b : Bool). has x s && b) (has-not y s h hy)
+has-without x y s h hy = has-and x (2 ^ 64 - 1 - y) s ∙ ap (λ (b : Bool). has x s && b) (has-not 64 y s h hy)
 
 -- the set of one seat
 pub has-one : (s t : ℕ) → has (2 ^ s) t ≡ eqb t s

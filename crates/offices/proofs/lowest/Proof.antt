@@ -1,13 +1,13 @@
 use Rattle.offices.proofs.Forms.{trailing-fit}
 use Rattle.offices.proofs.Counts.{trailing-office}
-use Rattle.offices.proofs.OfficeSet.lowest.Statement.{statement}
-use Rattle.offices.proofs.OfficeSet.lowest.Tie as tie
+use Rattle.offices.proofs.lowest.Statement.{statement}
+use Rattle.offices.proofs.lowest.Tie as tie
 
 cast-result : tie.Need-cast-result
 cast-result c = trailing-fit _
 
 returns : tie.Need-returns
-returns c = trailing-office (c .before .args .self .bits)
+returns c = trailing-office (c .args .bits)
 
 pub lowest-spec : {M : Type 1} → statement M
 lowest-spec = tie.close (tie.spec cast-result returns)

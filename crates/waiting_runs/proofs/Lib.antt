@@ -1,0 +1,2 @@
+mod Awaits
+pub mod Runs

@@ -1,0 +1,1 @@
+// Whom an office waits for along its runs: theorems only, in proofs.

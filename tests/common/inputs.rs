@@ -1,0 +1,74 @@
+// What the calls for C on a state are tried with: the records of plays, and rows with a word changed.
+use crate::model::{mark_length, offices, L};
+use crate::play::{Habits, Play};
+use crate::random::Random;
+use crate::rows::{self, WORDS};
+
+fn habits(random: &mut Random) -> Habits {
+    let (forged, damaged) = match random.below(3) {
+        0 => (0, 0),
+        1 => (100 + random.below(400), random.below(60)),
+        _ => (random.below(200), 200 + random.below(300)),
+    };
+    Habits { change: 4 + random.below(40), own_report: random.below(40), loss: random.below(20), swap: random.below(20), forged, damaged }
+}
+
+// The office of a play and the records that it is handed.
+pub fn a_play(random: &mut Random, records: usize) -> (usize, Vec<Vec<u8>>) {
+    let pool = random.next() & random.next() | 0xff;
+    let all: Vec<usize> = offices(pool).collect();
+    let kept = all[random.below(all.len())];
+    let habits = habits(random);
+    let mut play = Play::new(Random(random.next() | 1), habits, pool, kept);
+    play.go(records);
+    let mut rest = &play.input[1..];
+    let mut handed = Vec::new();
+    while !rest.is_empty() {
+        let (record, more) = rest.split_at(mark_length(rest).unwrap());
+        handed.push(record.to_vec());
+        rest = more;
+    }
+    (kept, handed)
+}
+
+pub fn some<T: Copy>(random: &mut Random, of: &[T]) -> T {
+    of[random.below(of.len())]
+}
+
+// One word of a row changed: numbers about L and about the numbers there, modes, presence, what stands behind an empty slot, sets at will.
+pub fn change(random: &mut Random, row: &mut [u32]) {
+    let o = random.below(16);
+    let low = (1 << 30) - 1;
+    let near = row[rows::NUMBER];
+    let any = random.next() as u32;
+    match random.below(16) {
+        0 => row[rows::MODE] = some(random, &[0, 1, 2, 0, 1, 2, 3, u32::MAX]),
+        1 => row[rows::slot(o)] = some(random, &[0, 1, 0, 1, 1, 2, u32::MAX]),
+        2 => row[rows::OWN] = some(random, &[o as u32, 15, 0, 16, 256]),
+        3 => row[rows::slot(o) + 1] = any,
+        4 => row[rows::slot(o) + 2] = some(random, &[0, 1, 2, 3, 257, 258, u32::MAX]),
+        5 => {
+            let at = rows::NET + random.below(4);
+            row[at] = some(random, &[0, any, row[rows::NET], 1 << (any % 32)]);
+        }
+        6 => row[rows::slot(o) + 3 + random.below(2)] = some(random, &[0, row[rows::NET], row[rows::NET + 1], any]),
+        7 => row[some(random, &[rows::START, rows::NUMBER, rows::VIEW_NUMBER])] = some(random, &[L - 2, L - 1, L, low, low + 1]),
+        8 => {
+            let at = rows::slot_numbers(o) + random.below(2);
+            row[at] = some(random, &[L - 1, L, low, low + 1, near, near + 1]);
+        }
+        9 => {
+            // behind an empty slot any word stands
+            if let Some(o) = (0..16).map(|k| (o + k) % 16).find(|&o| row[rows::slot(o)] == 0) {
+                let at = rows::slot_numbers(o) + random.below(18);
+                row[at] = any;
+            }
+        }
+        10 => row[rows::ACCEPTED + o] = some(random, &[0, L, near]),
+        11 => row[rows::START + random.below(WORDS - rows::START)] = some(random, &[L + 1, u32::MAX]),
+        _ => {
+            let at = rows::START + random.below(WORDS - rows::START);
+            row[at] = some(random, &[L, L - 1, 0, near, near + 1, low]);
+        }
+    }
+}
