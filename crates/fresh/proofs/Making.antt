@@ -48,6 +48,11 @@ module _ (office : ℕ) (ws : List ℕ) (n : ℕ) (e : n ≡ madeOf office .refu
     unfolding freshRow
     fresh-0 z ws′ d = rw (d, eq-eqb (length ws) rowLength long, made-0 office (most z))
 
+-- in words of a row's length the refusal is that of making a state
+pub fresh-refusal : (office : ℕ) (ws : List ℕ) → length ws ≡ rowLength → freshRow office ws .refusal ≡ madeOf office .refusal
+unfolding freshRow
+fresh-refusal office ws l = rw (eq-eqb (length ws) rowLength l)
+
 made-shaped : (office : ℕ) → Shaped (madeOf office .state)
 made-shaped office = go (decLt 15 office)
   where

@@ -15,7 +15,7 @@ use Rattle.run_reader.proofs.Growing.{whole-stays, other-stays, other-check}
 use Rattle.records.specs.Layout.{checkOf}
 use Rattle.rules.specs.State.{State}
 use Rattle.rules.specs.Refusals.{wellFormed, unreadable, refused, madeOf, stepOf}
-use Rattle.lines.specs.Lines.{frontOf, behindOf, answerFor, lineFor, goesOn, linesIn, linesOf, textOf}
+use Rattle.lines.specs.Lines.{frontOf, behindOf, answerFor, lineFor, goesOn, linesIn, linesOf, noOffice, textOf}
 
 module _ (b : List ℕ) where
   -- the record in front of a reading that does not end, and of one that does
@@ -154,3 +154,9 @@ module _ (traced : Bool) (s : State) (n : ℕ) (well : wellFormed s ≡ true) (w
 pub no-office : (traced : Bool) (f : List ℕ) → textOf traced [] ≡ textOf traced (16 ∷ f)
 unfolding textOf madeOf
 no-office traced f = refl
+
+-- the first byte makes a state, or the one line is the text
+pub text-made : (traced : Bool) (office : ℕ) (f : List ℕ)
+    → textOf traced (office ∷ f) ≡ ifb (eqb (madeOf office .refusal) 0) (linesOf traced (madeOf office .state) 0 f) noOffice
+unfolding textOf
+text-made traced office f = refl

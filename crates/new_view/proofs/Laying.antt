@@ -29,14 +29,14 @@ module _ (s : State) where
   laid-at n o l = getD-tab 16 (λ k. ifb (ltb k n) (startOf s k) 0) o 0 l
 
   -- at each office the largest is that of the numbers copied so far
-  pub running : (n : ℕ) → laidOf n s .largest ≡ largest n (λ o. getD (laidOf n s .starts) o 0)
+  pub largest-so-far : (n : ℕ) → laidOf n s .largest ≡ largest n (λ o. getD (laidOf n s .starts) o 0)
   unfolding laidOf
-  running n = refl
+  largest-so-far n = refl
 
   -- and these are the start numbers of the first offices
   pub laid-largest : (n : ℕ) → n ≤ 16 → laidOf n s .largest ≡ largest n (startOf s)
   laid-largest n h =
-      running n ∙ largest-ext n (λ o. getD (laidOf n s .starts) o 0) (startOf s) (λ o l. laid-at n o (omega arith) ∙ rw (lt-ltb o n l))
+      largest-so-far n ∙ largest-ext n (λ o. getD (laidOf n s .starts) o 0) (startOf s) (λ o l. laid-at n o (omega arith) ∙ rw (lt-ltb o n l))
 
   -- one office more
   laid-set : (n : ℕ) → n < 16 → set (laidOf n s .starts) n (startOf s n) ≡ laidOf (n + 1) s .starts

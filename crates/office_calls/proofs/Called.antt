@@ -4,9 +4,10 @@ use mathlib.Core.List.{List}
 use Prim.Native.Nat.{ℕ}
 use lib.ListN.{length}
 use Rattle.record_step.specs.Step.{stepRow, Stepped}
-use Rattle.office_calls.specs.Calls.{answerNumber, callOf}
+use Rattle.call_number.specs.Number.{callNumber}
+use Rattle.office_calls.specs.Calls.{callOf}
 
 pub call-is : (ws b o : List ℕ) (refusal written : ℕ) (ws′ o′ : List ℕ) (r : ℕ) → Stepped (stepRow ws b (length o)) o refusal written ws′ o′
-    → r ≡ answerNumber written refusal → record { answer = r; words = ws′; bytes = o′ } ≡ callOf ws b o
+    → r ≡ callNumber written refusal → record { answer = r; words = ws′; bytes = o′ } ≡ callOf ws b o
 unfolding callOf
 call-is ws b o refusal written ws′ o′ r h e = rw (e, h .same-refusal, h .same-written, h .same-words, h .same-out)

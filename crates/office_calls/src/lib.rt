@@ -1,9 +1,11 @@
 // What an office at work calls from C: a state in the caller's words, and the step; include/room.h declares it.
+use call_number::call_number;
 ghost use mathlib.Core.Path.{_≡_};
 ghost use Prim.Native.Nat.{_≤_};
 ghost use Rattle.rules.specs.Refusals.{fullRoom};
 ghost use Rattle.fresh.specs.Fresh.{freshRow};
-ghost use Rattle.office_calls.specs.Calls.{answerNumber, callOf};
+ghost use Rattle.call_number.specs.Number.{callNumber};
+ghost use Rattle.office_calls.specs.Calls.{callOf};
 
 // Makes a state in the words lent.
 #[no_mangle]
@@ -13,17 +15,11 @@ pub extern "C" fn room_fresh(office: u8, state: &mut [u32]) -> u8
     step::fresh(office, state)
 }
 
-fn wide(x: u8) -> u32
-    ensures { λ r. ⌜ r ≡ x ⌝ }
-{
-    x as u32
-}
-
 fn answer(written: usize, refusal: u8) -> u32
     requires { ⌜ written ≤ fullRoom ⌝ }
-    ensures { λ r. ⌜ r ≡ answerNumber written refusal ⌝ }
+    ensures { λ r. ⌜ r ≡ callNumber written refusal ⌝ }
 {
-    256 * (written as u32) + wide(refusal)
+    call_number(written as u16, refusal)
 }
 
 // Hands a record to the state in the words lent.

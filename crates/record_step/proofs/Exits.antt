@@ -52,7 +52,7 @@ pub refuse-meets : (q : RowResult) (n : ℕ) (ws o : List ℕ) (a : Answer) → 
 refuse-meets q n ws o a d e = rw (d, e) (record { same-refusal = refl; same-written = rw no-bytes; same-words = refl; same-out = rw no-bytes })
 
 module _ (ws b : List ℕ) (room : ℕ) where
-  on-row : isRow ws ≡ true → stepRow ws b room ≡ inRow ws (stepOf (stateOf ws) b room)
+  pub on-row : isRow ws ≡ true → stepRow ws b room ≡ inRow ws (stepOf (stateOf ws) b room)
   unfolding stepRow
   on-row r = rw r
 

@@ -11,8 +11,8 @@ ghost use lib.ListN.{length};
 ghost use Rattle.reports.specs.Read.{readReport};
 ghost use Rattle.record_step.specs.Step.{Ready, Stepped, stepRow};
 
-// A record that has no report's mark, once checks 2 and 3 are passed.
-fn on_proposal(state: &mut [u32], low: bool, record: &[u8], out: &mut [u8]) -> Answer
+// A record that has no report's mark: the reader of proposals has the word.
+fn on_other_mark(state: &mut [u32], low: bool, record: &[u8], out: &mut [u8]) -> Answer
     requires { ⌜ Ready (now state) low (length (now out)) × (readReport (now «record») .refusal ≡ 4) ⌝ }
     ensures { λ r. ⌜ Stepped (stepRow (now (state .entry)) (now («record» .entry)) (length (now (out .entry)))) (now (out .entry))
         (r .refusal) (r .written) (now (state .exit)) (now (out .exit)) ⌝ }
@@ -33,7 +33,7 @@ pub fn on_record(state: &mut [u32], low: bool, record: &[u8], out: &mut [u8]) ->
 {
     let read = read_report(record);
     if read.refusal == 4 {
-        return on_proposal(state, low, record, out);
+        return on_other_mark(state, low, record, out);
     }
     let refusal = trial::report(state, low, read.refusal, read.report);
     if refusal != 0 {

@@ -43,11 +43,6 @@ mode-back None = refl
 mode-back Fast = refl
 mode-back Slow = refl
 
-pub kind-none : (m : Mode) → kindOf m ≡ 0 → m ≡ None
-kind-none None e = refl
-kind-none Fast e = absurd (omega arith)
-kind-none Slow e = absurd (omega arith)
-
 -- a state by its parts
 abbrev pub viewAt : List ℕ → View
 viewAt ws = record { number = getD ws viewPlace 0; members = setAt ws membersPlace; starts = sixteenWords ws startsPlace }

@@ -5,6 +5,7 @@ use mathlib.Core.List.{List, []}
 use mathlib.Core.Logic.{_⊎_, inl, inr}
 use Prim.Native.Nat.{ℕ, _≤_, _<_}
 use native.Mathlib.Omega.{arith}
+use native.Mathlib.Decide.{decLt}
 use borrow.Author.Tests.{lt-ltb, le-ltb, le-leb, lt-leb, ne-eqb}
 use Rattle.laws.specs.Upd.{ifb}
 use Rattle.records.specs.Layout.{reportMark, proposalMark, reportLength, proposalLength, checkOf, checkOwn, decodeReport, decodeProposal}
@@ -13,7 +14,7 @@ use Rattle.rules.specs.State.{State}
 use Rattle.rules.specs.Rules.{fresh}
 use Rattle.rules.specs.Refusals.{wellFormed, fullRoom, madeOf, unreadable, Event, aReport, aProposal, eventOf, refusalOf, ruleOf}
 use Rattle.rules.specs.Refusals.{refused, accepting, actOf, stepOf, allBytes, size}
-use Rattle.rule_laws.proofs.Steps.{Refused, Accepts, step-cases}
+use Rattle.rule_laws.proofs.Steps.{Refused, Accepts, step-cases, fresh-well}
 use Rattle.rule_laws.proofs.Sizes.{step-size}
 
 -- 1
@@ -25,6 +26,14 @@ module _ (o : ℕ) where
   pub made-1 : 15 < o → madeOf o ≡ record { refusal = 1; state = fresh 0 }
   unfolding madeOf
   made-1 l = rw (lt-leb o 15 l)
+
+-- the state that is made passes check 2, also where the office is refused
+pub made-passes : (office : ℕ) → wellFormed (madeOf office .state) ≡ true
+made-passes office = go (decLt 15 office)
+  where
+    go : Dec (15 < office) → wellFormed (madeOf office .state) ≡ true
+    go (yes l) = rw (made-1 office l) (fresh-well 0 (omega arith))
+    go (no l) = rw (made-0 office (omega arith)) (fresh-well office (omega arith))
 
 module _ (s : State) (b : List ℕ) (room : ℕ) where
   pub exit-2 : wellFormed s ≡ false → stepOf s b room ≡ refused 2 s

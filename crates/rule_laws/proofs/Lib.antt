@@ -1,3 +1,4 @@
+pub mod Modes
 pub mod Parts
 pub mod Tests
 pub mod Recipients

@@ -5,13 +5,14 @@ use mathlib.Core.Logic.{⊎-elim}
 use Prim.Native.Nat.{ℕ, _≤_, _<_}
 use native.Mathlib.Omega.{arith}
 use lib.Dec.{eqb}
-use borrow.Author.Tests.{eqb-true, eq-eqb, ne-eqb, ltb-true, lt-ltb}
+use borrow.Author.Tests.{eqb-true, eq-eqb, ne-eqb, ltb-true, lt-ltb, not-true}
 use Rattle.laws.specs.Fin.{anyb, largest}
 use Rattle.laws.proofs.Fin.{as-facts, and-l, and-r, and-in, or-l, or-r, or-cases, true-false, allb-out, allb-in, anyb-out, anyb-none, largest-max, largest-le, if-cases}
 use Rattle.laws.specs.Upd.{ifb}
 use Rattle.offices.specs.Offices.{serves}
 use Rattle.rules.specs.State.{Mode, None, Fast, Slow, State, slow, kindOf, storedAt, usedFor}
 use Rattle.rules.specs.Rules.{inSlot, matching, matchingSlow, aboveOwn, usesOwn, calledIn, slowCalled, joinedNumber, nextNumber, slowNumber, agreesKind, agreesIn, isNone, agreed}
+use Rattle.rule_laws.proofs.Modes.{busy-is, is-busy}
 
 module _ (s : State) where
   -- a stored proposal of another office with the net view's members
@@ -214,18 +215,6 @@ module _ (s : State) where
     pub busy : s .mode ≡ None → ⊥
     pub every : (o : ℕ) → o < 16 → serves (s .net .bits) o ≡ true → Agreeing o
 
-  not-none : (m : Mode) → not (isNone m) ≡ true → m ≡ None → ⊥
-  unfolding isNone
-  not-none None c e = let z : _≡_ {A = ℕ} 0 1 = cc in omega arith
-  not-none Fast c e = let z : _≡_ {A = ℕ} 0 1 = cc in omega arith
-  not-none Slow c e = let z : _≡_ {A = ℕ} 0 1 = cc in omega arith
-
-  none-not : (m : Mode) → (m ≡ None → ⊥) → not (isNone m) ≡ true
-  unfolding isNone
-  none-not None n = absurd (n refl)
-  none-not Fast n = refl
-  none-not Slow n = refl
-
   asked : (b c : Bool) → not b || c ≡ true → b ≡ true → c ≡ true
   asked true c e h = e
   asked false c e h = let z : _≡_ {A = ℕ} 0 1 = cc in absurd (omega arith)
@@ -237,12 +226,12 @@ module _ (s : State) where
   pub agreed-out : agreed s ≡ true → AllAgree
   unfolding agreed
   agreed-out c = record {
-    busy = not-none (s .mode) (and-l (not (isNone (s .mode))) _ c);
+    busy = busy-is (s .mode) (not-true _ (and-l (not (isNone (s .mode))) _ c));
     every = λ o lt v. agreeing-out (s .mode) o refl
         (asked (serves (s .net .bits) o) _ (allb-out 16 _ (and-r (not (isNone (s .mode))) _ c) o lt) v);
   }
 
   pub agreed-in : AllAgree → agreed s ≡ true
   unfolding agreed
-  agreed-in h = and-in _ _ (none-not (s .mode) (h .busy))
+  agreed-in h = and-in _ _ (ap not (is-busy (s .mode) (h .busy)))
       (allb-in 16 _ (λ o lt. answer (serves (s .net .bits) o) _ (λ v. agreeing-in (s .mode) o refl (h .busy) (h .every o lt v))))

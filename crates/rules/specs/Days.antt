@@ -53,9 +53,12 @@ unfolding upd allb anyb largest tab bytesAll bit has unionOf withoutOf serves en
     eventOf wrongSender wrongKind wrongNumber withoutSeat strayUsed notAbove usedAhead proposalChecks accepting actOf stepOf allBytes
 given s b = stepOf s b 182
 
--- what is handed in: a report of joining seats, and P of document 01
+-- what is handed in: a report of joining and of leaving seats, one of joining seats only, and P of document 01
+abbrev pub reported : State → ℕ → ℕ → Result
+reported s joining leaving = given s (encodeReport (record { joining = record { bits = joining }; leaving = record { bits = leaving } }))
+
 abbrev report : State → ℕ → Result
-report s joining = given s (encodeReport (record { joining = record { bits = joining }; leaving = record { bits = 0 } }))
+report s joining = reported s joining 0
 
 abbrev P : State → ℕ → ℕ → ℕ → ℕ → ℕ → Result
 P s kind start number used0 used1 =

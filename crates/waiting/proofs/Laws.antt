@@ -1,5 +1,5 @@
 -- Laws of the question whom an office waits for: what each answer says of the state, and that the two ways to look agree.
-use mathlib.Core.Path.{_≡_, refl, sym, _∙_}
+use mathlib.Core.Path.{_≡_, refl, _∙_}
 use mathlib.Core.Bool.{Bool, true, false, _&&_, _||_, not}
 use mathlib.Core.Logic.{_↔_}
 use Prim.Native.Nat.{ℕ, _<_}
@@ -10,26 +10,15 @@ use Rattle.laws.specs.Lowest.{lowestBelow}
 use Rattle.laws.proofs.Fin.{if-cases, and-l, and-r, or-l, or-r, true-false, allb-ext}
 use Rattle.laws.proofs.Lowest.{lowest-le, lowest-passes, lowest-first, lowest-is, none-lowest, lowest-of-all}
 use Rattle.offices.specs.Offices.{serves}
-use Rattle.rules.specs.State.{Mode, None, Fast, Slow, State, kindOf}
+use Rattle.rules.specs.State.{None, State}
 use Rattle.rules.specs.Rules.{seated, agreesIn, isNone, agreed}
 use Rattle.rules.specs.Refusals.{wellFormed}
+use Rattle.rule_laws.proofs.Modes.{busy-is}
 use Rattle.waiting.specs.declared.Waiting.{Waiting}
 use Rattle.waiting.specs.declared.Waiting.the-variants as answers
 use Rattle.waiting.specs.Waiting.{lacks, lowestLacking, lowestLackingOfAll, forNobody, found, waitingFor, waitingForOfAll}
 
--- the mode by the kind of proposal that it waits for
-pub kind-is-none : (m : Mode) → eqb (kindOf m) 0 ≡ isNone m
-unfolding isNone
-kind-is-none None = refl
-kind-is-none Fast = refl
-kind-is-none Slow = refl
-
-pub kind-zero : (m : Mode) → kindOf m ≡ 0 → isNone m ≡ true
-kind-zero m e = sym (kind-is-none m) ∙ eq-eqb (kindOf m) 0 e
-
-pub kind-busy : (m : Mode) → (kindOf m ≡ 0 → ⊥) → isNone m ≡ false
-kind-busy m n = sym (kind-is-none m) ∙ ne-eqb (kindOf m) 0 n
-
+-- in mode none the agreement test is not met
 pub agreed-none : (s : State) → isNone (s .mode) ≡ true → agreed s ≡ false
 unfolding agreed
 agreed-none s e = rw e
@@ -44,9 +33,9 @@ unfolding waitingFor waitingForOfAll
 same-answer s = rw (same-lowest s)
 
 -- the agreement test is met exactly where no office lacks its proposal
-has-its : (s : State) (o : ℕ) → not (serves (s .net .bits) o) || agreesIn (s .mode) s o ≡ not (lacks s o)
+not-lacking : (s : State) (o : ℕ) → not (serves (s .net .bits) o) || agreesIn (s .mode) s o ≡ not (lacks s o)
 unfolding lacks
-has-its s o = go (serves (s .net .bits) o) (agreesIn (s .mode) s o)
+not-lacking s o = go (serves (s .net .bits) o) (agreesIn (s .mode) s o)
   where
     go : (a b : Bool) → not a || b ≡ not (a && not b)
     go true true = refl
@@ -55,7 +44,7 @@ has-its s o = go (serves (s .net .bits) o) (agreesIn (s .mode) s o)
 
 pub agreed-lowest : (s : State) → isNone (s .mode) ≡ false → agreed s ≡ eqb (lowestLacking s) 16
 unfolding agreed lowestLacking
-agreed-lowest s n = rw n (allb-ext 16 _ (λ o. not (lacks s o)) (λ o l. has-its s o) ∙ none-lowest 16 (lacks s))
+agreed-lowest s n = rw n (allb-ext 16 _ (λ o. not (lacks s o)) (λ o l. not-lacking s o) ∙ none-lowest 16 (lacks s))
 
 -- the answer by its cases
 pub answer-malformed : (s : State) → wellFormed s ≡ false → waitingFor s ≡ answers.Malformed
@@ -76,11 +65,8 @@ unfolding forNobody
 busy-mode s e = or-l (isNone (s .mode)) _ e
 
 pub busy-out : (s : State) → forNobody s ≡ false → (s .mode ≡ None → ⊥) × (seated s ≡ true)
-unfolding forNobody isNone
-busy-out s e = (not-none (s .mode) (or-l (isNone (s .mode)) _ e), not-false _ (or-r (isNone (s .mode)) _ e))
-  where
-    not-none : (m : Mode) → isNone m ≡ false → m ≡ None → ⊥
-    not-none m i q = let z : isNone None ≡ false = rw q at i in true-false true refl z
+unfolding forNobody
+busy-out s e = (busy-is (s .mode) (busy-mode s e), not-false _ (or-r (isNone (s .mode)) _ e))
 
 -- office o is the lowest-numbered office of the net view without the proposal
 pub record Lowest (s : State) (o : ℕ) : Type 0 where

@@ -1,18 +1,10 @@
 -- Whom office 0 waits for after document 01's days: what the definition gives, and what is to be said.
 use mathlib.Core.List.{List, [], _∷_}
-use Prim.Native.Nat.{ℕ}
-use Rattle.records.specs.Layout.{encodeReport}
-use Rattle.rules.specs.State.{State}
 use Rattle.rules.specs.Rules.{fresh}
-use Rattle.rules.specs.Refusals.{Result}
-use Rattle.rules.specs.Days.{given, dayA, dayB, dayC, dayG, dayI}
+use Rattle.rules.specs.Days.{reported, dayA, dayB, dayC, dayG, dayI}
 use Rattle.waiting.specs.declared.Waiting.{Waiting}
 use Rattle.waiting.specs.declared.Waiting.the-variants as answers
 use Rattle.waiting.specs.Waiting.{waitingFor}
-
--- a report by which seats join and leave
-abbrev reported : State → ℕ → ℕ → Result
-reported s joining leaving = given s (encodeReport (record { joining = record { bits = joining }; leaving = record { bits = leaving } }))
 
 -- day I is the report after the proposal; after B seat 0 leaves, or seat 8 joins; office 16 has no state
 unfoldable pub answersComputed : List Waiting

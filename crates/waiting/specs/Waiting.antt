@@ -1,6 +1,6 @@
 -- Whom an office waits for: the lowest-numbered office of the net view without the proposal that the agreement test asks for.
 use mathlib.Core.Bool.{Bool, _&&_, _||_, not}
-use Prim.Native.Nat.{ℕ, _+_, _*_}
+use Prim.Native.Nat.{ℕ}
 use lib.Dec.{ltb}
 use Rattle.laws.specs.Lowest.{lowestBelow, lowestOfAll}
 use Rattle.laws.specs.Upd.{ifb}
@@ -48,13 +48,9 @@ refusalIn answers.Nobody = 0
 refusalIn answers.Met = 0
 refusalIn (answers.For o) = 0
 
--- and its value: an office, 16 for met, 17 for nobody and with 2
+-- and its value for C: an office, 16 for met, 17 for nobody and with 2
 unfoldable pub valueIn : Waiting → ℕ
 valueIn answers.Malformed = 17
 valueIn answers.Nobody = 17
 valueIn answers.Met = 16
 valueIn (answers.For o) = o
-
--- both in one number, for C
-unfoldable pub numberOf : Waiting → ℕ
-numberOf w = 256 * valueIn w + refusalIn w

@@ -1,32 +1,27 @@
 // What an office at work asks from C of its state: whom it waits for; include/room.h declares it.
+use call_number::call_number;
 use waiting_for::Waiting;
 use waiting_for::waiting_for;
 ghost use mathlib.Core.Path.{_≡_};
-ghost use Rattle.waiting.specs.Waiting.{numberOf};
 ghost use Rattle.waiting_for.specs.Row.{waitingRow};
+ghost use Rattle.waiting_calls.specs.Calls.{numberOf};
 
-const MET: u32 = 16;
+const MET: u16 = 16;
 
-const NOBODY: u32 = 17;
-
-fn wide(x: u8) -> u32
-    ensures { λ r. ⌜ r ≡ x ⌝ }
-{
-    x as u32
-}
+const NOBODY: u16 = 17;
 
 fn number(w: Waiting) -> u32
     ensures { λ r. ⌜ r ≡ numberOf w ⌝ }
 {
     match w {
-        Waiting::Malformed => 256 * NOBODY + 2,
-        Waiting::Nobody => 256 * NOBODY,
-        Waiting::Met => 256 * MET,
-        Waiting::For(o) => 256 * wide(o),
+        Waiting::Malformed => call_number(NOBODY, 2),
+        Waiting::Nobody => call_number(NOBODY, 0),
+        Waiting::Met => call_number(MET, 0),
+        Waiting::For(o) => call_number(o as u16, 0),
     }
 }
 
-// 256 x the answer + the refusal. The words are only read.
+// The words are only read.
 #[no_mangle]
 pub extern "C" fn room_waiting_for(state: &[u32]) -> u32
     ensures { λ r. ⌜ r ≡ numberOf (waitingRow (now (state .entry))) ⌝ }

@@ -14,7 +14,8 @@ use Rattle.row.specs.Row.{stateOf, isRow, soundRow}
 use Rattle.row.proofs.Low.{is-row, sound-row, sound-well, sound-words}
 use Rattle.waiting.specs.declared.Waiting.the-variants as answers
 use Rattle.waiting.specs.Waiting.{lowestLacking, forNobody, waitingFor}
-use Rattle.waiting.proofs.Laws.{kind-is-none, answer-malformed, answer-nobody, answer-found}
+use Rattle.rule_laws.proofs.Modes.{kind-is-none}
+use Rattle.waiting.proofs.Laws.{answer-malformed, answer-nobody, answer-found}
 use Rattle.waiting_for.specs.Row.{waitingRow}
 
 module _ (ws : List ℕ) where

@@ -5,7 +5,8 @@ use Prim.Native.Nat.{ℕ}
 use lib.Dec.{eqb}
 use Rattle.rules.specs.Rules.{isNone}
 use Rattle.row.specs.Row.{stateOf}
-use Rattle.waiting.proofs.Laws.{kind-zero, kind-busy, agreed-none, agreed-lowest}
+use Rattle.rule_laws.proofs.Modes.{kind-zero, kind-busy}
+use Rattle.waiting.proofs.Laws.{agreed-none, agreed-lowest}
 use Rattle.agreement.proofs.agreed.Statement.{statement}
 use Rattle.agreement.proofs.agreed.Tie as tie
 

@@ -18,8 +18,8 @@ told c =
 read-report-requires : tie.Need-read-report-requires
 read-report-requires c κs = search needs
 
-on-proposal-requires : tie.Need-on-proposal-requires
-on-proposal-requires c κs = (c .before .before .before .before .before .before .before .before .pre, sym (ap (λ (r : ReportRead). r .refusal) (c .before .before .before .before .read-report .ensures)) ∙ c .before .before .if1 .taken)
+on-other-mark-requires : tie.Need-on-other-mark-requires
+on-other-mark-requires c κs = (c .before .before .before .before .before .before .before .before .pre, sym (ap (λ (r : ReportRead). r .refusal) (c .before .before .before .before .read-report .ensures)) ∙ c .before .before .if1 .taken)
 
 same-length : tie.Need-same-length
 same-length c = search needs
@@ -77,7 +77,7 @@ on-record-spec =
     tie.close
     (tie.spec
     read-report-requires
-    on-proposal-requires
+    on-other-mark-requires
     same-length
     same-length-2
     returns

@@ -9,7 +9,7 @@ use Rattle.parts.specs.Bounds.{early, reach}
 use Rattle.parts.specs.Did.{Fits}
 use Rattle.parts.proofs.Bounding.{bounded-le, opens-bounded}
 use Rattle.parts.proofs.Dids.{did-as, did-then, did-none, fits-as, fits-first, fits-second}
-use Rattle.row.proofs.Parts.{kind-none}
+use Rattle.rule_laws.proofs.Modes.{kind-none}
 use Rattle.slow_look.proofs.Looks.{called-is}
 use Rattle.slow_test.proofs.Cases.{slow-first, slow-made, slow-quiet}
 use Rattle.slow_test.proofs.slow_test.Statement.{statement}

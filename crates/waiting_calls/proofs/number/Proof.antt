@@ -1,74 +1,66 @@
 use borrow.Author.Needs.{needs}
-use native.Mathlib.Omega.{arith}
-use mathlib.Core.Path.{_≡_, sym, ap, _∙_}
-use Prim.Native.Nat.{ℕ, _+_, _*_}
-use Rattle.waiting.specs.Waiting.{refusalIn, valueIn, numberOf}
+use mathlib.Core.Path.{sym, ap, _∙_}
+use Rattle.waiting.specs.Waiting.{refusalIn, valueIn}
+use Rattle.waiting_calls.specs.Calls.{numberOf}
 use Rattle.waiting_calls.proofs.number.Statement.{statement}
 use Rattle.waiting_calls.proofs.number.Tie as tie
 
 enum-told : tie.Need-enum-told
 enum-told c = search needs
 
-mul-result : tie.Need-mul-result
-mul-result c = search needs
-
-add-result : tie.Need-add-result
-add-result c = search needs
+call-number-requires : tie.Need-call-number-requires
+call-number-requires c κs = search needs
 
 enum-told-2 : tie.Need-enum-told-2
 enum-told-2 c = search needs
 
-mul-result-2 : tie.Need-mul-result-2
-mul-result-2 c = search needs
+call-number-requires-2 : tie.Need-call-number-requires-2
+call-number-requires-2 c κs = search needs
 
 enum-told-3 : tie.Need-enum-told-3
 enum-told-3 c = search needs
 
-mul-result-3 : tie.Need-mul-result-3
-mul-result-3 c = search needs
+call-number-requires-3 : tie.Need-call-number-requires-3
+call-number-requires-3 c κs = search needs
 
 enum-known-w : tie.Need-enum-known-w
 enum-known-w c = search needs
 
-wide-requires : tie.Need-wide-requires
-wide-requires c κs = search needs
+cast-call-number : tie.Need-cast-call-number
+cast-call-number c = search needs
 
-mul-result-4 : tie.Need-mul-result-4
-mul-result-4 c = search needs
+call-number-requires-4 : tie.Need-call-number-requires-4
+call-number-requires-4 c κs = search needs
 
 returns : tie.Need-returns
 unfolding refusalIn valueIn numberOf
-returns c = sym (ap numberOf (c .enum-told .given .1))
+returns c = c .call-number .ensures ∙ sym (ap numberOf (c .before .enum-told .given .1))
 
 returns-2 : tie.Need-returns-2
 unfolding refusalIn valueIn numberOf
-returns-2 c = sym (ap numberOf (c .enum-told2 .given .1))
+returns-2 c = c .call-number2 .ensures ∙ sym (ap numberOf (c .before .enum-told2 .given .1))
 
 returns-3 : tie.Need-returns-3
 unfolding refusalIn valueIn numberOf
-returns-3 c = sym (ap numberOf (c .enum-told3 .given .1))
+returns-3 c = c .call-number3 .ensures ∙ sym (ap numberOf (c .before .enum-told3 .given .1))
 
 returns-4 : tie.Need-returns-4
 unfolding refusalIn valueIn numberOf
-returns-4 c =
-    let o = c .before .before .w .given .0 .0 in
-    let e : 256 * o ≡ 256 * o + 0 = omega arith in
-    ap (λ (o : ℕ). 256 * o) (c .wide .ensures) ∙ e ∙ sym (ap numberOf (c .before .before .w .given .1))
+returns-4 c = c .call-number4 .ensures ∙ sym (ap numberOf (c .before .before .w .given .1))
 
 pub number-spec : {M : Type 1} → statement M
 number-spec =
     tie.close
     (tie.spec
     enum-told
-    mul-result
-    add-result
+    call-number-requires
     enum-told-2
-    mul-result-2
+    call-number-requires-2
     enum-told-3
-    mul-result-3
+    call-number-requires-3
     enum-known-w
-    wide-requires
-    mul-result-4
+    cast-call-number
+    call-number-requires-4
     returns
     returns-2
     returns-3

@@ -1,6 +1,6 @@
 use borrow.Author.Needs.{needs}
 use mathlib.Core.Path.{ap, _∙_}
-use Rattle.waiting.specs.Waiting.{numberOf}
+use Rattle.waiting_calls.specs.Calls.{numberOf}
 use Rattle.waiting_calls.proofs.room_waiting_for.Statement.{statement}
 use Rattle.waiting_calls.proofs.room_waiting_for.Tie as tie
 

@@ -6,8 +6,8 @@ use Rattle.row.specs.Row.{stateOf}
 use Rattle.row.proofs.Low.{sound-well, sound-row}
 use Rattle.record_step.proofs.Exits.{ReadAs, proposal-told, refuse-meets, exit-refused, accepts-event, accept-meets}
 use borrow.Author.Needs.{needs}
-use Rattle.record_step.proofs.on_proposal.Statement.{statement}
-use Rattle.record_step.proofs.on_proposal.Tie as tie
+use Rattle.record_step.proofs.on_other_mark.Statement.{statement}
+use Rattle.record_step.proofs.on_other_mark.Tie as tie
 
 -- what the reader told
 told : (c : tie.After-read-proposal) → let r = c .read-proposal .result in ReadAs (c .before .before .before .before .args .«record» .now) (r .refusal) (aProposal (r .proposal))
@@ -61,8 +61,8 @@ returns-2 c =
     accept-meets (a .state .now) (a .«record» .now) (length (a .out .now)) (s .pre .0) (told (c .before .before .before .before .before .before .before .before .before .before .before)) (n .result) (n .ensures) (c .before .before .before .before .before .before .before .before .if1 .left)
     (c .accept .result) (d .result) (a .out .now) _ _ (d .ensures) (λ k. omega (arith, c .before .before .before .slice-known3 .given k)) (c .accept .ensures)
 
-pub on-proposal-spec : {M : Type 1} → statement M
-on-proposal-spec =
+pub on-other-mark-spec : {M : Type 1} → statement M
+on-other-mark-spec =
     tie.close
     (tie.spec
     read-proposal-requires
