@@ -7,12 +7,16 @@ mod play;
 #[allow(dead_code)]
 #[path = "../tests/common/random.rs"]
 mod random;
+#[allow(dead_code)]
+#[path = "../tests/common/repeats.rs"]
+mod repeats;
 
 use std::io::Write;
 
 fn main() {
     let records: usize = std::env::args().nth(1).expect("argument: how many records").parse().unwrap();
-    let habits = play::Habits { change: 4, own_report: 0, loss: 2, swap: 10, forged: 0, damaged: 0 };
+    // Without the habit of repeats, 15 in a thousand records are repeats. Seats that come back call for slow rounds.
+    let habits = play::Habits { change: 4, own_report: 0, back: 1, repeat: 0, loss: 2, swap: 10, forged: 0, damaged: 0 };
     let mut play = play::Play::new(random::Random(1), habits, 0x00ff_ffff, 0);
     while play.records < records {
         play.go(records.min(play.records + 49));

@@ -174,6 +174,9 @@ impl Office {
     }
     fn report(&mut self, joining: u64, leaving: u64, out: &mut Out) -> u8 {
         let net = (self.net | joining) & !leaving;
+        if net == self.net {
+            return 0;
+        }
         if !has_seat(net, self.own) {
             self.net = net;
             return 0;

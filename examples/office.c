@@ -125,6 +125,7 @@ int main(void) {
     make_report(report, seat(4), 0);
     hand(state, "seat 4 joins, with an output of 181 bytes", report, 18, ROOM - 1);
     hand(state, "seat 4 joins", report, 18, ROOM);
+    hand(state, "seat 4 joins, reported again", report, 18, ROOM);
     hand(state, "office 1 proposes", proposal, 84, ROOM);
     hand(state, "office 1 proposes the same again", proposal, 84, ROOM);
     return 0;

@@ -44,7 +44,8 @@ uint8_t room_fresh(uint8_t office, uint32_t *state, size_t words);
  *                 room server's rules number them
  *   answer / 256  the bytes written, at most 182; 0 where the record is refused
  * Where the record is refused, no word of the state and no byte of the output is touched. Where it is accepted, no byte after
- * those written is. The record is only read. */
+ * those written is. A report that leaves the net view equal to what it was is accepted and does nothing: 0 bytes, and no word
+ * is touched. The record is only read. */
 uint32_t room_step(uint32_t *state, size_t words, const uint8_t *record, size_t length, uint8_t *out, size_t room);
 
 /* Whom the office of a state waits for. The answer is 256 x a value + the refusal or 0:

@@ -8,10 +8,13 @@ mod model;
 mod play;
 #[path = "common/random.rs"]
 mod random;
+#[path = "common/repeats.rs"]
+mod repeats;
 
 use model::{program, report, Office, Proposal, FAST, L, ROOM, SLOW};
 use play::{Habits, Play};
 use random::Random;
+use repeats::{Reports, KINDS};
 use std::collections::BTreeMap;
 use std::fmt::Write as _;
 use std::fs::File;
@@ -22,7 +25,7 @@ use std::sync::Mutex;
 
 const THREADS: usize = 2;
 
-// What was reached, by the model: refusals, lengths written at acceptance, views at each office.
+// What was reached, by the model: refusals, lengths written at acceptance, views at each office, reports of each kind.
 #[derive(Clone, Default)]
 struct Reached {
     inputs: usize,
@@ -30,6 +33,7 @@ struct Reached {
     refusals: BTreeMap<u8, usize>,
     lengths: BTreeMap<usize, usize>,
     views: [usize; 16],
+    reports: Reports,
 }
 
 impl Reached {
@@ -45,6 +49,7 @@ impl Reached {
         for (office, n) in other.views.iter().enumerate() {
             self.views[office] += n;
         }
+        self.reports.add(&other.reports);
     }
 }
 
@@ -57,15 +62,23 @@ struct Expected {
 fn expected(input: &[u8], reached: &mut Reached) -> Expected {
     let mut e = Expected { lines: String::new(), traced: String::new() };
     reached.inputs += 1;
+    reached.reports.last.clear();
+    let mut before = Office::fresh(input.first().map_or(0, |&own| own as usize));
     program(&mut &input[..], |line| {
         let count = line.bytes.len();
         reached.records += 1;
+        // a report that passed checks 4 and 5
+        if line.record.len() == 18 && [0, 13].contains(&line.refusal) {
+            let nothing = line.refusal == 0 && count == 0 && *line.office == before;
+            reached.reports.count(&before, line.record, nothing);
+        }
+        before = *line.office;
         *reached.refusals.entry(line.refusal).or_default() += 1;
         if line.refusal == 0 {
             *reached.lengths.entry(count).or_default() += 1;
             reached.views[input[0] as usize] += line.bytes.windows(2).any(|w| w == b"VW") as usize;
         }
-        let text = format!("{} {} {count} {}", line.number, line.refusal, line.view);
+        let text = format!("{} {} {count} {}", line.number, line.refusal, line.office.view.number);
         writeln!(e.lines, "{text}").unwrap();
         e.traced += &text;
         if count > 0 {
@@ -220,6 +233,8 @@ fn calm(random: &mut Random) -> Habits {
     Habits {
         change: 5 + rates[random.below(4)],
         own_report: rates[random.below(3)],
+        back: rates[random.below(3)],
+        repeat: rates[random.below(3)],
         loss: rates[random.below(4)],
         swap: rates[random.below(3)],
         forged: 0,
@@ -254,7 +269,7 @@ fn near_the_ceiling(random: &mut Random) -> Vec<u8> {
         let kind = [FAST, SLOW][random.below(2)];
         play.hand(o.own, &Proposal { sender: sender as u8, kind, members: o.net, start, number, used }.bytes());
     }
-    play.go(begun + 4 + random.below(30));
+    play.go(begun + 4 + random.below(40));
     play.input
 }
 
@@ -322,10 +337,20 @@ fn view(number: u32, members: u64, start_0: u32, start_1: u32) -> Vec<u8> {
     [&head.concat()[..], &[0; 56]].concat()
 }
 
-// The worked days at office 0, and where Moshe and document 01 differ: the records, and what the last is answered.
-fn worked_days() -> Vec<(Vec<Vec<u8>>, u8, Vec<u8>)> {
+// A day at office 0: the records, and what the last is answered.
+type Day = (Vec<Vec<u8>>, u8, Vec<u8>);
+
+fn day(records: &[Vec<u8>], refusal: u8, written: &[Vec<u8>]) -> Day {
+    (records.to_vec(), refusal, written.concat())
+}
+
+fn after(before: &[Vec<u8>], record: Vec<u8>) -> Vec<Vec<u8>> {
+    [before, &[record]].concat()
+}
+
+// The worked days, and where Moshe and document 01 differ.
+fn worked_days() -> Vec<Day> {
     let a = vec![report(0x01, 0)];
-    let after = |before: &Vec<Vec<u8>>, record: Vec<u8>| [&before[..], &[record]].concat();
     let b = after(&a, report(0x10, 0));
     let c = after(&b, p(FAST, 1, 1, 0, 0));
     let e = after(&c, p(FAST, 3, 2, 2, 1));
@@ -335,7 +360,6 @@ fn worked_days() -> Vec<(Vec<Vec<u8>>, u8, Vec<u8>)> {
     let k = vec![p(FAST, 1, L, 0, 0)];
     let m = vec![report(0x01, 0x01)];
     let both = report(0x11, 0);
-    let day = |records: &Vec<Vec<u8>>, refusal: u8, written: &[Vec<u8>]| (records.clone(), refusal, written.concat());
     vec![
         day(&a, 0, &[notice(1, 0x01), view(2, 0x01, 1, 0)]),
         day(&b, 0, &[notice(2, 0x11), own(FAST, 2, 2, 1, 0)]),
@@ -353,7 +377,6 @@ fn worked_days() -> Vec<(Vec<Vec<u8>>, u8, Vec<u8>)> {
         day(&vec![p(FAST, 1, L + 1, 0, 0)], 8, &[]),
         day(&m, 0, &[]),
         day(&after(&m, report(0x10, 0)), 0, &[]),
-        day(&after(&b, report(0, 0)), 0, &[notice(3, 0x11), own(FAST, 3, 3, 1, 0)]),
         day(&vec![report(0x01, 0)[..17].to_vec()], 5, &[]),
         day(&vec![[&report(0x01, 0)[..], &[0]].concat()], 5, &[]),
         day(&vec![vec![]], 4, &[]),
@@ -362,12 +385,35 @@ fn worked_days() -> Vec<(Vec<Vec<u8>>, u8, Vec<u8>)> {
         day(&after(&b, p(FAST, 3, 9, 2, 1)), 0, &[own(SLOW, 2, 10, 1, 0)]),
         day(&after(&b, p(SLOW, 1, 2, 0, 0)), 0, &[own(SLOW, 2, 3, 1, 0)]),
         day(&after(&c, p(SLOW, 3, 2, 2, 1)), 0, &[notice(3, 0x11), own(SLOW, 3, 3, 2, 1)]),
-        day(&after(&c, report(0, 0)), 0, &[notice(3, 0x11), own(FAST, 3, 3, 2, 1)]),
     ]
 }
 
+// N, other reports that leave the net view equal to what it was, and some beside them that change it.
+fn days_of_repeats() -> Vec<Day> {
+    let b = vec![report(0x01, 0), report(0x10, 0)];
+    let c = after(&b, p(FAST, 1, 1, 0, 0));
+    let left = after(&c, report(0, 0x10));
+    let top = vec![p(SLOW, 1, L - 2, 0, 0), report(0x11, 0)];
+    vec![
+        day(&after(&b, report(0, 0)), 0, &[]),
+        day(&after(&b, report(0x10, 0)), 0, &[]),
+        day(&after(&b, report(0x111, 0x100)), 0, &[]),
+        day(&after(&c, report(0, 0)), 0, &[]),
+        day(&after(&c, report(0x10, 0)), 0, &[]),
+        day(&left, 0, &[notice(3, 0x01), view(4, 0x01, 3, 0)]),
+        day(&after(&left, report(0x10, 0)), 0, &[notice(4, 0x11), own(FAST, 4, 4, 3, 1)]),
+        day(&top, 0, &[notice(1, 0x11), own(FAST, 1, L - 1, 0, 0), own(SLOW, 1, L, 0, 0)]),
+        day(&after(&top, report(0, 0)), 0, &[]),
+        day(&after(&top, report(0x100, 0)), 13, &[]),
+    ]
+}
+
+fn all_days() -> Vec<Day> {
+    [worked_days(), days_of_repeats()].concat()
+}
+
 fn model_on_worked_days() -> bool {
-    worked_days().into_iter().all(|(records, refusal, written)| {
+    all_days().into_iter().all(|(records, refusal, written)| {
         let mut office = Office::fresh(0);
         let mut out = Vec::new();
         let answers: Vec<u8> = records.iter().map(|record| office.step(record, ROOM, &mut out)).collect();
@@ -386,38 +432,7 @@ fn model_on_checks_2_and_3() -> bool {
         && Office::fresh(15).step(&record, ROOM, &mut out) == 0
 }
 
-fn main() {
-    let paths: Vec<String> = std::env::args().skip(1).collect();
-    let [room, trace] = <[String; 2]>::try_from(paths).expect("arguments: the programs room and trace");
-    std::fs::create_dir_all("target/tests").unwrap();
-    let mut t = Tests { room, trace, all: Reached::default(), passed: 0, failed: 0 };
-
-    t.check("the model on the worked days", model_on_worked_days());
-    t.check("the model on checks 2 and 3", model_on_checks_2_and_3());
-
-    let days = worked_days();
-    t.case("worked days", days.len(), Way::File, |_, k| [&[0][..], &days[k].0.concat()].concat());
-    t.case("no office", 1, Way::File, |_, _| vec![]);
-    t.case("each office byte alone", 256, Way::File, |_, k| vec![k as u8]);
-    t.case("each office byte and a report of all seats", 256, Way::File, |_, k| {
-        [&[k as u8][..], &report(u64::MAX, 0)].concat()
-    });
-    t.case("plays", 7000, Way::File, |r, _| {
-        let records = 1 + r.below(60);
-        a_play(r, calm, records)
-    });
-    t.case("plays with forged proposals", 5000, Way::File, |r, _| {
-        let records = 1 + r.below(40);
-        a_play(r, forging, records)
-    });
-    t.case("plays with damaged proposals", 4000, Way::File, |r, _| {
-        let records = 1 + r.below(40);
-        a_play(r, damaging, records)
-    });
-    t.case("plays near the ceiling", 2000, Way::File, |r, _| near_the_ceiling(r));
-    t.case("spoiled plays", 3000, Way::File, |r, _| spoiled(r));
-    t.case("random bytes", 1000, Way::File, |r, _| random_bytes(r));
-
+fn long_plays(t: &mut Tests) {
     let long: Vec<Vec<u8>> = (0..4).map(|k| a_play(&mut Random(100 + k), forging, 20_000)).collect();
     t.case("long plays", long.len(), Way::File, |_, k| long[k].clone());
     // the ends go through each place of a record, before and behind a buffer's
@@ -428,7 +443,9 @@ fn main() {
         a_play(r, forging, records)
     });
     t.case("long, in pieces", 2, Way::Pieces, |_, k| long[2 + k].clone());
+}
 
+fn reached(t: &mut Tests) {
     let all = t.all.clone();
     println!("room: {} inputs, {} records compared", all.inputs, all.records);
     println!("refusals: {:?}", all.refusals);
@@ -442,6 +459,51 @@ fn main() {
         t.check(&format!("{length} bytes written"), all.lengths.contains_key(&length));
     }
     t.check("views at every office", all.views.iter().all(|&n| n > 0));
+    let reports = &all.reports;
+    println!("repeats: {}, {} of which would be refused 13 if they were heard", reports.repeats, reports.at_ceiling);
+    t.check("each repeat is a line of 0 bytes, and the state stays", reports.repeats > 0 && reports.heard == 0);
+    t.check("repeats that would be refused 13 if they were heard", reports.at_ceiling > 0);
+    for (kind, n) in KINDS.iter().zip(reports.kinds) {
+        println!("{kind}: {n}");
+        t.check(kind, n > 0);
+    }
+}
+
+fn main() {
+    let paths: Vec<String> = std::env::args().skip(1).collect();
+    let [room, trace] = <[String; 2]>::try_from(paths).expect("arguments: the programs room and trace");
+    std::fs::create_dir_all("target/tests").unwrap();
+    let mut t = Tests { room, trace, all: Reached::default(), passed: 0, failed: 0 };
+
+    t.check("the model on the worked days", model_on_worked_days());
+    t.check("the model on checks 2 and 3", model_on_checks_2_and_3());
+
+    let days = all_days();
+    t.case("worked days", days.len(), Way::File, |_, k| [&[0][..], &days[k].0.concat()].concat());
+    t.case("no office", 1, Way::File, |_, _| vec![]);
+    t.case("each office byte alone", 256, Way::File, |_, k| vec![k as u8]);
+    t.case("each office byte and a report of all seats, twice", 256, Way::File, |_, k| {
+        let all = report(u64::MAX, 0);
+        [&[k as u8][..], &all, &all].concat()
+    });
+    t.case("plays", 7000, Way::File, |r, _| {
+        let records = 1 + r.below(100);
+        a_play(r, calm, records)
+    });
+    t.case("plays with forged proposals", 5000, Way::File, |r, _| {
+        let records = 1 + r.below(50);
+        a_play(r, forging, records)
+    });
+    t.case("plays with damaged proposals", 4000, Way::File, |r, _| {
+        let records = 1 + r.below(50);
+        a_play(r, damaging, records)
+    });
+    t.case("plays near the ceiling", 2000, Way::File, |r, _| near_the_ceiling(r));
+    t.case("spoiled plays", 3000, Way::File, |r, _| spoiled(r));
+    t.case("random bytes", 1000, Way::File, |r, _| random_bytes(r));
+    long_plays(&mut t);
+
+    reached(&mut t);
     println!("{} passed, {} failed", t.passed, t.failed);
     std::process::exit((t.failed != 0) as i32);
 }

@@ -10,6 +10,9 @@ mod play;
 #[allow(dead_code)]
 #[path = "common/random.rs"]
 mod random;
+#[allow(dead_code)]
+#[path = "common/repeats.rs"]
+mod repeats;
 #[path = "common/rows.rs"]
 mod rows;
 #[path = "common/verdicts.rs"]

@@ -10,7 +10,16 @@ fn habits(random: &mut Random) -> Habits {
         1 => (100 + random.below(400), random.below(60)),
         _ => (random.below(200), 200 + random.below(300)),
     };
-    Habits { change: 4 + random.below(40), own_report: random.below(40), loss: random.below(20), swap: random.below(20), forged, damaged }
+    Habits {
+        change: 4 + random.below(40),
+        own_report: random.below(40),
+        back: random.below(30),
+        repeat: random.below(60),
+        loss: random.below(20),
+        swap: random.below(20),
+        forged,
+        damaged,
+    }
 }
 
 // The office of a play and the records that it is handed.

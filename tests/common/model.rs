@@ -23,7 +23,7 @@ fn number(record: &[u8], at: usize) -> u32 {
     u32::from_be_bytes(record[at..at + 4].try_into().unwrap())
 }
 
-fn set(record: &[u8], at: usize) -> u64 {
+pub fn set(record: &[u8], at: usize) -> u64 {
     u64::from_be_bytes(record[at..at + 8].try_into().unwrap())
 }
 
@@ -40,7 +40,7 @@ pub fn report(joining: u64, leaving: u64) -> Vec<u8> {
     record
 }
 
-#[derive(Clone, Copy)]
+#[derive(Clone, Copy, PartialEq)]
 pub struct Proposal {
     pub sender: u8,
     pub kind: u8,
@@ -81,7 +81,7 @@ impl Proposal {
     }
 }
 
-#[derive(Clone, Copy)]
+#[derive(Clone, Copy, PartialEq)]
 pub struct View {
     pub number: u32,
     pub members: u64,
@@ -124,7 +124,7 @@ pub enum Waiting {
     Office(usize),
 }
 
-#[derive(Clone, Copy)]
+#[derive(Clone, Copy, PartialEq)]
 pub struct Office {
     pub own: usize,
     pub mode: Mode,
@@ -273,7 +273,12 @@ impl Event<'_> {
 
     // A report arrives.
     fn report(&mut self, joining: u64, leaving: u64) {
-        self.office.net = (self.office.net | joining) & !leaving;
+        let before = self.office.net;
+        self.office.net = (before | joining) & !leaving;
+        // Change request 2: a report that leaves the net view equal to what it was does nothing. It makes no number, so 13 is not met.
+        if self.office.net == before {
+            return;
+        }
         if !has_seat(self.office.net, self.office.own) {
             return;
         }
@@ -354,18 +359,19 @@ impl Event<'_> {
 
 // The program
 
-// A line of the program, with the bytes that the event wrote.
+// A line of the program, with its record, the office as the event left it and the bytes that the event wrote.
 pub struct Line<'a> {
     pub number: u64,
     pub refusal: u8,
-    pub view: u32,
+    pub record: &'a [u8],
+    pub office: &'a Office,
     pub bytes: &'a [u8],
 }
 
 pub fn program(input: &mut impl Read, mut each: impl FnMut(Line)) {
     let mut record = [0; 84];
     if fill(input, &mut record[..1]) == 0 || record[0] > 15 {
-        return each(Line { number: 0, refusal: 1, view: 0, bytes: &[] });
+        return each(Line { number: 0, refusal: 1, record: &[], office: &Office::fresh(0), bytes: &[] });
     }
     let mut office = Office::fresh(record[0] as usize);
     let mut out = Vec::new();
@@ -378,7 +384,7 @@ pub fn program(input: &mut impl Read, mut each: impl FnMut(Line)) {
             got += fill(input, &mut record[2..length]);
         }
         let refusal = office.step(&record[..got], ROOM, &mut out);
-        each(Line { number, refusal, view: office.view.number, bytes: &out });
+        each(Line { number, refusal, record: &record[..got], office: &office, bytes: &out });
         if refusal == 4 || refusal == 5 {
             return;
         }

@@ -1,13 +1,18 @@
-// Plays of several offices that run by the model, with reports that come late or differ, lost and re-ordered proposals, and forged
-// ones. What one office is handed on the way is an input of the program.
+// Plays of several offices that run by the model, with reports that come late, differ or repeat, lost and re-ordered proposals, and
+// forged ones. What one office is handed on the way is an input of the program.
 use crate::model::{has_seat, mark_length, offices, report, Office, Proposal, FAST, L, ROOM, SLOW};
 use crate::random::Random;
+use crate::repeats::{is_repeat, repeat};
 use std::collections::VecDeque;
 
 // How many in a thousand events are of each kind; the others are reports and deliveries.
 pub struct Habits {
     pub change: usize,
     pub own_report: usize,
+    // seats leave and come back at one office
+    pub back: usize,
+    // reports that change nothing
+    pub repeat: usize,
     pub loss: usize,
     pub swap: usize,
     pub forged: usize,
@@ -24,6 +29,8 @@ pub struct Play {
     offices: [Office; 16],
     links: Vec<VecDeque<Vec<u8>>>,
     reports: Vec<VecDeque<(u64, u64)>>,
+    // the last report of each office that was no repeat
+    last: Vec<Vec<u8>>,
     out: Vec<u8>,
     pub input: Vec<u8>,
     pub records: usize,
@@ -39,6 +46,7 @@ impl Play {
             offices: std::array::from_fn(Office::fresh),
             links: vec![VecDeque::new(); 256],
             reports: vec![VecDeque::new(); 16],
+            last: vec![Vec::new(); 16],
             out: Vec::new(),
             input: vec![kept as u8],
             records: 0,
@@ -61,7 +69,7 @@ impl Play {
 
     fn event(&mut self) {
         let h = &self.habits;
-        let bounds = [h.change, h.own_report, h.loss, h.swap, h.forged, h.damaged];
+        let bounds = [h.change, h.own_report, h.back, h.repeat, h.loss, h.swap, h.forged, h.damaged];
         let mut at = self.random.below(1000);
         let mut kind = 0;
         while kind < bounds.len() && at >= bounds[kind] {
@@ -78,32 +86,54 @@ impl Play {
                 let (joining, leaving) = (self.some_seats(), self.some_seats());
                 self.hand(to, &report(joining, leaving));
             }
-            2 => {
-                let link = self.some_link();
-                let n = self.links[link].len();
-                if n > 0 {
-                    let at = self.random.below(n);
-                    self.links[link].remove(at);
-                }
-            }
+            2 => self.back(),
             3 => {
-                let link = self.some_link();
-                let n = self.links[link].len();
-                if n > 1 {
-                    let at = self.random.below(n);
-                    self.links[link].swap(0, at);
-                }
+                let to = self.some_office();
+                let record = repeat(&mut self.random, self.offices[to].net, &self.last[to]);
+                self.hand(to, &record);
             }
-            4 => {
+            4 => self.lose(),
+            5 => self.swap(),
+            6 => {
                 let p = self.forged();
                 self.hand(self.kept, &p.bytes());
             }
-            5 => {
+            7 => {
                 let p = self.forged();
                 let p = self.damaged(p);
                 self.hand(self.kept, &p.bytes());
             }
             _ => self.report_or_delivery(),
+        }
+    }
+
+    // Seats leave one office's net view with its next report and come back with the one after, so that it proposes anew what others may have
+    // agreed on, and what slow proposals are stored for. In one case of four all seats but its own.
+    fn back(&mut self) {
+        let to = self.some_office();
+        let some = if self.random.below(4) == 0 { !(15 << (4 * to)) } else { self.some_seats() };
+        let seats = some & self.offices[to].net;
+        if seats != 0 {
+            self.reports[to].push_front((seats, 0));
+            self.reports[to].push_front((0, seats));
+        }
+    }
+
+    fn lose(&mut self) {
+        let link = self.some_link();
+        let n = self.links[link].len();
+        if n > 0 {
+            let at = self.random.below(n);
+            self.links[link].remove(at);
+        }
+    }
+
+    fn swap(&mut self) {
+        let link = self.some_link();
+        let n = self.links[link].len();
+        if n > 1 {
+            let at = self.random.below(n);
+            self.links[link].swap(0, at);
         }
     }
 
@@ -132,6 +162,9 @@ impl Play {
         if to == self.kept {
             self.input.extend_from_slice(record);
             self.records += 1;
+        }
+        if record.len() == 18 && !is_repeat(self.offices[to].net, record) {
+            self.last[to] = record.to_vec();
         }
         self.offices[to].step(record, ROOM, &mut self.out);
         let mut rest = &self.out[..];

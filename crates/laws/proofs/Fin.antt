@@ -1,9 +1,10 @@
 -- Below n: all, some, the largest, sums; a test by cases.
-use mathlib.Core.Path.{_≡_, refl, sym, ap}
+use mathlib.Core.Path.{_≡_, refl, sym, ap, _∙_}
 use mathlib.Core.Bool.{Bool, true, false, _&&_, _||_, not, and-true}
 use mathlib.Core.Logic.{_⊎_, inl, inr, _↔_}
 use Prim.Native.Nat.{ℕ, zero, suc, _+_, _*_, _≤_, _<_, max}
 use native.Mathlib.Omega.{arith}
+use native.Mathlib.Numerals.{add-one}
 use native.Mathlib.Decide.{ℕ-discrete, decLt}
 use lib.Dec.{ltb, leb, eqb}
 use borrow.Author.Tests.{ltb-true, ltb-false, leb-true, leb-false, eqb-true, eqb-false, not-true, not-false, lt-ltb, le-ltb, le-leb, lt-leb, eq-eqb, ne-eqb}
@@ -263,3 +264,26 @@ pub sum-mono : (n : ℕ) (f g : ℕ → ℕ) → ((k : ℕ) → k < n → f k �
 unfolding sum
 sum-mono zero f g h = omega arith
 sum-mono (suc n) f g h = let a = h n (omega arith) in let b = sum-mono n f g (λ k lt. h k (omega arith)) in omega arith
+
+-- the last place below m at which a sequence changes, where it ends otherwise than it began
+pub last-change : (f : ℕ → ℕ) (m : ℕ) → (f m ≡ f 0 → ⊥)
+    → (n : ℕ) × (n < m) × (f (n + 1) ≡ f n → ⊥) × ((k : ℕ) → n < k → k < m → f (k + 1) ≡ f k)
+last-change f zero h = absurd (h refl)
+last-change f (suc m) h = go (ℕ-discrete (f (suc m)) (f m)) (last-change f m)
+  where
+    Last : ℕ → Type 0
+    Last j = (n : ℕ) × (n < j) × (f (n + 1) ≡ f n → ⊥) × ((k : ℕ) → n < k → k < j → f (k + 1) ≡ f k)
+
+    same : (k : ℕ) → k ≡ m → f (suc m) ≡ f m → f (k + 1) ≡ f k
+    same k q e = rw (q, add-one) e
+
+    go : Dec (f (suc m) ≡ f m) → ((f m ≡ f 0 → ⊥) → Last m) → Last (suc m)
+    go (no d) ih = (m, omega arith, rw add-one d, λ k a b. absurd (omega arith))
+    go (yes e) ih =
+        let c = ih (λ z. h (e ∙ z)) in
+        let l = c .1 in
+        (c .0, omega arith, c .2, λ k a b. stays k a b (c .3 k a) (ℕ-discrete k m))
+      where
+        stays : {n : ℕ} (k : ℕ) → n < k → k < suc m → (k < m → f (k + 1) ≡ f k) → Dec (k ≡ m) → f (k + 1) ≡ f k
+        stays k a b h (yes q) = same k q e
+        stays k a b h (no q) = h (omega arith)

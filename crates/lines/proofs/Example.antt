@@ -13,10 +13,10 @@ use Rattle.offices.specs.Offices.{serves}
 use Rattle.records.specs.Layout.{encodeReport, decodeReport, encodeProposal, decodeProposal, encodeNotice, encodeView, markOf, formFor, formOf}
 use Rattle.records.specs.Layout.{checkFor, checkOf}
 use Rattle.run_reader.specs.Run.{runCheck, runSize, runFirst, runRest}
-use Rattle.rules.specs.Rules.{andThen, fresh, netAfter, withNet, seated, opened, noticeOf, opens, nextNumber}
+use Rattle.rules.specs.Rules.{andThen, fresh, netAfter, withNet, repeats, seated, opened, noticeOf, opens, nextNumber}
 use Rattle.rules.specs.Rules.{ownProposal, proposed, receives, proposesFast, received, matching, matchingSlow, aboveOwn, usesOwn, slowCalled}
 use Rattle.rules.specs.Rules.{joinedNumber, slowNumber, proposesSlow, slowTest, agreesKind, isNone, agreed, startOf, viewOf, concluded}
-use Rattle.rules.specs.Rules.{agreementTest, tests, reportRule, proposalRule}
+use Rattle.rules.specs.Rules.{agreementTest, tests, changeRule, reportRule, proposalRule}
 use Rattle.rules.specs.Refusals.{slotWithin, wellFormed, unreadable, eventOf, wrongSender, wrongKind, wrongNumber, withoutSeat}
 use Rattle.rules.specs.Refusals.{strayUsed, notAbove, usedAhead, proposalChecks, accepting, actOf, stepOf, allBytes, madeOf}
 use Rattle.digits.specs.Digits.{decimalIn, decimal}
@@ -33,9 +33,9 @@ P = encodeProposal
 
 pub computed : List ℕ
 unfolding upd allb anyb largest tab bytesAll bit has unionOf withoutOf serves encodeReport decodeReport encodeProposal decodeProposal
-    encodeNotice encodeView markOf formFor formOf checkFor checkOf andThen fresh netAfter withNet seated opened noticeOf opens nextNumber
+    encodeNotice encodeView markOf formFor formOf checkFor checkOf andThen fresh netAfter withNet repeats seated opened noticeOf opens nextNumber
     ownProposal proposed receives proposesFast received matching matchingSlow aboveOwn usesOwn slowCalled joinedNumber slowNumber proposesSlow
-    slowTest agreesKind isNone agreed startOf viewOf concluded agreementTest tests reportRule proposalRule slotWithin wellFormed unreadable
+    slowTest agreesKind isNone agreed startOf viewOf concluded agreementTest tests changeRule reportRule proposalRule slotWithin wellFormed unreadable
     eventOf wrongSender wrongKind wrongNumber withoutSeat strayUsed notAbove usedAhead proposalChecks accepting actOf stepOf allBytes madeOf
     runCheck runSize runFirst runRest decimalIn decimal traceOf lineOf frontOf behindOf lineFor goesOn linesIn linesOf noOffice textOf
 computed = textOf false (0 ∷ (report 0b1 ++ (report 0b10000 ++ (P ++ P))))

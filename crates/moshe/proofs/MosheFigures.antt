@@ -1,5 +1,5 @@
 -- Figures 5 and 6 of Moshe beside the rules: with document 01's slow agreement the handlers are the rules, on every state; and where
--- slow agreement is not called for they are the fast agreement algorithm as printed.
+-- slow agreement is not called for they are the fast agreement algorithm as printed. Of reports, those that change the net view.
 use mathlib.Core.Path.{_≡_, refl, sym, ap, subst, _∙_}
 use mathlib.Core.Bool.{Bool, true, false, _&&_, _||_, not}
 use mathlib.Core.Logic.{_⊎_, inl, inr, _↔_}
@@ -21,11 +21,12 @@ use Rattle.offices.proofs.Laws.{seat-serves, serves-seat}
 use Rattle.records.specs.declared.Report.{Report}
 use Rattle.records.specs.declared.Proposal.{Proposal}
 use Rattle.rules.specs.State.{Mode, None, Fast, Slow, Slot, State, keeping, fast, slow, zeros, storedAt, acceptedAt}
-use Rattle.rules.specs.Rules.{notice, proposal, Outcome, nothingWritten, andThen, fresh, netAfter, withNet, seated, opened, noticeOf, opens, nextNumber, ownProposal, proposed, receives, proposesFast, received, inSlot}
-use Rattle.rules.specs.Rules.{slowCalled, beginsIn, proposesSlow, slowTest, isNone, agreesKind, agreesIn, agreed, startOf, viewOf, concluded, agreementTest, tests, reportRule, proposalRule}
+use Rattle.rules.specs.Rules.{notice, proposal, Outcome, nothingWritten, andThen, fresh, netAfter, withNet, repeats, seated, opened, noticeOf, opens, nextNumber, ownProposal, proposed, receives, proposesFast, received, inSlot}
+use Rattle.rules.specs.Rules.{slowCalled, beginsIn, proposesSlow, slowTest, isNone, agreesKind, agreesIn, agreed, startOf, viewOf, concluded, agreementTest, tests, changeRule, reportRule, proposalRule}
 use Rattle.moshe.specs.Moshe.{Leaves, Server, toClients, toServers, Handled, nothingSent, thenRun, local, initially, propsOf, usedPropsOf, updateNSView, anyLocal, startFA, sendStartChange, proposalFA, others, sendProposal, storeProp, useProps, sendView}
 use Rattle.moshe.specs.Moshe.{deliverView, matchesNSView, onProposal, startsFA, onNE, reachedFA, neverSA, noSA, fastOnProposal, fastOnNE, serverOf, stateFrom, addressed, handledOf, needed, slowProposal, reached, onProposal01, onNE01}
 use Rattle.rule_laws.proofs.Parts.{proposed-reads, received-reads}
+use Rattle.rule_laws.proofs.Repeats.{repeat-rule, change-rule}
 use Rattle.rule_laws.proofs.Tests.{not-called, agreed-out}
 
 -- local(NSView) is not empty exactly when the test says so
@@ -142,8 +143,8 @@ module _ (N : Server → Proposal → Bool) (S : Server → Proposal → Handled
     starts-are = rw (delivered, sent-is t, ← (map-append (addressed (t .own)) (proposesFast (opened t) .written) (tests (proposesFast (opened t) .state) .written)))
 
   on-NE : (s : State) (n : Report) → (let t = withNet s (netAfter (s .net .bits) n) in seated t ≡ true → SameTests (proposesFast (opened t) .state) (made t))
-      → onNE N S R (serverOf s) n ≡ handledOf (s .own) (reportRule s n)
-  unfolding onNE reportRule updateNSView netAfter withNet anyLocal seated
+      → onNE N S R (serverOf s) n ≡ handledOf (s .own) (changeRule (withNet s (netAfter (s .net .bits) n)))
+  unfolding onNE changeRule updateNSView netAfter withNet anyLocal seated
   on-NE s n h = go (seated t) refl
     where
       t : State
@@ -190,11 +191,10 @@ tests-keep s =
     let k = slow-keeps s .1 in
     if-cases (λ (o : Outcome). o .state .accepted ≡ s .accepted) (agreed (slowTest s .state)) _ _ (λ e. k) (λ e. k)
 
-report-keeps : (s : State) (n : Report) → reportRule s n .state .accepted ≡ s .accepted
-unfolding reportRule andThen withNet opens opened proposesFast proposed
-report-keeps s n =
-    let t = withNet s (netAfter (s .net .bits) n) in
-    if-cases (λ (o : Outcome). o .state .accepted ≡ s .accepted) (seated t) _ _ (λ e. tests-keep (proposesFast (opened t) .state)) (λ e. refl)
+change-keeps : (t : State) → changeRule t .state .accepted ≡ t .accepted
+unfolding changeRule andThen opens opened proposesFast proposed
+change-keeps t =
+    if-cases (λ (o : Outcome). o .state .accepted ≡ t .accepted) (seated t) _ _ (λ e. tests-keep (proposesFast (opened t) .state)) (λ e. refl)
 
 proposal-keeps : (s : State) (p : Proposal) → proposalRule s p .state .accepted ≡ received s p .accepted
 unfolding proposalRule
@@ -204,11 +204,17 @@ proposal-keeps s p = if-cases (λ (o : Outcome). o .state .accepted ≡ received
 leaves : (own : ℕ) (accepted : List ℕ) (r : Handled) (o : Outcome) → o .state .accepted ≡ accepted → r ≡ handledOf own o → Leaves own accepted r o
 leaves own accepted r o a e = rw e (record { state = rw (← a); sent = refl })
 
--- the handlers with document 01's slow agreement are the rules, on every state; the own delivery leaves the last accepted numbers
-pub report-figure : (s : State) (n : Report) → Leaves (s .own) (s .accepted) (onNE01 (s .accepted) (serverOf s) n) (reportRule s n)
+-- the handlers with document 01's slow agreement are the rules, on every state, for reports that change the net view; the own delivery leaves
+-- the last accepted numbers
+pub report-figure : (s : State) (n : Report) → repeats s n ≡ false
+    → Leaves (s .own) (s .accepted) (onNE01 (s .accepted) (serverOf s) n) (reportRule s n)
 unfolding proposesFast proposed opened withNet
-report-figure s n = leaves _ _ _ _ (report-keeps s n)
-    (on-NE _ _ _ s n (λ e. tests-are _ _))
+report-figure s n c = rw (change-rule s n c) (leaves _ _ _ _ (change-keeps (withNet s (netAfter (s .net .bits) n)))
+    (on-NE _ _ _ s n (λ e. tests-are _ _)))
+
+-- where the paper would start an agreement once more, a repeat leaves every variable and sends nothing
+pub repeat-figure : (s : State) (n : Report) → repeats s n ≡ true → Leaves (s .own) (s .accepted) (nothingSent (serverOf s)) (reportRule s n)
+repeat-figure s n e = rw (repeat-rule s n e) (leaves _ _ _ (nothingWritten s) refl refl)
 
 pub proposal-figure : (s : State) (p : Proposal)
     → let accepted = tab 16 (upd (acceptedAt s) (p .sender) (p .number)) in
@@ -285,11 +291,11 @@ fast-proposal-figure s p m c f k n h = leaves _ _ _ _ (proposal-keeps s p)
     known = unfold received in λ o l q. subst Known (at o l)
         (upd-cases (λ (i : ℕ) (v : Slot). (i ≡ s .own → ⊥) → Known v) (storedAt s) (p .sender) (keeping p) o (λ d. h) (λ d. k o l) q)
 
-pub fast-report-figure : (s : State) (n : Report) → let t = withNet s (netAfter (s .net .bits) n) in
+pub fast-report-figure : (s : State) (n : Report) → repeats s n ≡ false → let t = withNet s (netAfter (s .net .bits) n) in
     (seated t ≡ true → slowCalled (proposesFast (opened t) .state) ≡ false) → OthersKnown s → Leaves (s .own) (s .accepted) (fastOnNE (serverOf s) n) (reportRule s n)
 unfolding proposesFast proposed opened withNet made ownProposal
-fast-report-figure s n c k = leaves _ _ _ _ (report-keeps s n)
-    (on-NE neverSA noSA reachedFA s n (λ e. fast-tests u refl (c e) own-fast known (made t)))
+fast-report-figure s n d c k = rw (change-rule s n d) (leaves _ _ _ _ (change-keeps t)
+    (on-NE neverSA noSA reachedFA s n (λ e. fast-tests u refl (c e) own-fast known (made t))))
   where
     t : State
     t = withNet s (netAfter (s .net .bits) n)

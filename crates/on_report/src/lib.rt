@@ -5,11 +5,12 @@ use offices::serves;
 use parts::opens;
 use records::Report;
 use round_tests::tests;
+use seats::SeatSet;
 ghost use mathlib.Core.Bool.{true};
 ghost use mathlib.Core.Path.{_≡_};
 ghost use Prim.Native.Nat.{_≤_};
 ghost use lib.ListN.{length};
-ghost use Rattle.rules.specs.Rules.{seated, reportRule};
+ghost use Rattle.rules.specs.Rules.{netAfter, withNet, repeats, seated, changeRule, reportRule};
 ghost use Rattle.rules.specs.Refusals.{limit, fullRoom, wellFormed};
 ghost use Rattle.row.specs.Row.{Row, stateOf};
 ghost use Rattle.parts.specs.Did.{Did, Fits};
@@ -26,16 +27,46 @@ fn fast_round(s: &mut [u32], out: &mut [u8]) -> usize
     tests(s, out, made)
 }
 
-pub fn act_on_report(s: &mut [u32], r: Report, out: &mut [u8]) -> usize
-    requires { ⌜ Row (now s) × (wellFormed (stateOf (now s)) ≡ true) × (fullRoom ≤ length (now out)) ⌝ }
-    ensures { λ n. ⌜ Did (λ u. reportRule u r) (now (s .entry)) (now (out .entry)) 0 (now (s .exit)) (now (out .exit)) n ⌝ }
+// Step 1: the net view with joining, then without leaving.
+fn net_after(net: SeatSet, r: Report) -> SeatSet
+    ensures { λ n. ⌜ n .bits ≡ netAfter (net .bits) r ⌝ }
+{
+    net.union(r.joining).without(r.leaving)
+}
+
+// A report that leaves the net view equal to what it was.
+pub fn is_repeat(s: &[u32], r: Report) -> bool
+    requires { ⌜ Row (now s) ⌝ }
+    ensures { λ t. ⌜ t ≡ repeats (stateOf (now (s .entry))) r ⌝ }
 {
     let old = row::net(s);
-    let net = old.union(r.joining).without(r.leaving);
+    let net = net_after(old, r);
+    net.equals(old)
+}
+
+// A report that is no repeat.
+pub fn act_on_change(s: &mut [u32], r: Report, out: &mut [u8]) -> usize
+    requires { ⌜ Row (now s) × (wellFormed (stateOf (now s)) ≡ true) × (fullRoom ≤ length (now out)) ⌝ }
+    ensures { λ n. ⌜ Did (λ u. changeRule (withNet u (netAfter (u .net .bits) r))) (now (s .entry)) (now (out .entry)) 0 (now (s .exit))
+        (now (out .exit)) n ⌝ }
+{
+    let old = row::net(s);
+    let net = net_after(old, r);
     let own = row::own(s);
     row_changes::set_net(s, net);
     if !serves(net, own) {
         return 0;
     }
     fast_round(s, out)
+}
+
+// A repeat does nothing.
+pub fn act_on_report(s: &mut [u32], r: Report, out: &mut [u8]) -> usize
+    requires { ⌜ Row (now s) × (wellFormed (stateOf (now s)) ≡ true) × (fullRoom ≤ length (now out)) ⌝ }
+    ensures { λ n. ⌜ Did (λ u. reportRule u r) (now (s .entry)) (now (out .entry)) 0 (now (s .exit)) (now (out .exit)) n ⌝ }
+{
+    if is_repeat(s, r) {
+        return 0;
+    }
+    act_on_change(s, r, out)
 }

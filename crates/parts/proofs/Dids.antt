@@ -78,12 +78,13 @@ did-length d = ap length (d .written .output) ∙ simp length-sets
 pub fits-as : (f g : State → Outcome) (ws out : List ℕ) (at : ℕ) → f (stateOf ws) ≡ g (stateOf ws) → Fits g ws out at → Fits f ws out at
 fits-as f g ws out at e room = rw e room
 
--- what an event writes has room in 182 bytes
+-- a part that writes what a rule does has room in 182 bytes
+pub part-fits : (part : State → Outcome) (t : State) (o : Outcome) (room : ℕ) → part t ≡ o → size (o .written) ≤ fullRoom → fullRoom ≤ room
+    → 0 + size (part t .written) ≤ room
+part-fits part t o room q h le = let f = ap (λ (x : Outcome). size (x .written)) q in omega arith
+
 pub event-fits : (part : State → Outcome) (s t : State) (e : Event) (room : ℕ) → part t ≡ ruleOf s e → fullRoom ≤ room → 0 + size (part t .written) ≤ room
-event-fits part s t e room q le =
-    let h = event-size s e in
-    let f = ap (λ (o : Outcome). size (o .written)) q in
-    omega arith
+event-fits part s t e room q = part-fits part t (ruleOf s e) room q (event-size s e)
 
 module _ (f g : State → Outcome) (ws out : List ℕ) (at : ℕ) (room : Fits (λ s. andThen (f s) g) ws out at) where
   both : size (andThen (f (stateOf ws)) g .written) ≡ size (f (stateOf ws) .written) + size (g (f (stateOf ws) .state) .written)

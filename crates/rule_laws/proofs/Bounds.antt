@@ -177,7 +177,7 @@ module _ (k : ℕ) where
   report-raises s r h =
       let t = arrived s (aReport r) in
       let b : Capped k k t = withNet-capped k k s h _ in
-      staged-report bounds s r (λ e. idle t b) (λ e. reported t b)
+      staged-report bounds s r (λ e. idle s h) (λ e. idle t b) (λ e. reported t b)
 
   pub proposal-raises : (s : State) (p : Proposal) → Capped k k s → p .start ≤ k → p .number ≤ k → Raised k (proposalRule s p .state)
   proposal-raises s p h x y =

@@ -18,13 +18,13 @@ use Rattle.records.proofs.Lengths.{proposal-length, notice-length, view-length}
 use Rattle.records.specs.declared.Report.{Report}
 use Rattle.records.specs.declared.Proposal.{Proposal}
 use Rattle.rules.specs.State.{Mode, None, Fast, Slow, Slot, State, keeping, storedAt, numberIn}
-use Rattle.rules.specs.Rules.{Written, notice, proposal, view, Outcome, andThen, opened, opens}
+use Rattle.rules.specs.Rules.{Written, notice, proposal, view, Outcome, andThen, withNet, repeats, opened, opens}
 use Rattle.rules.specs.Rules.{noticeOf, nextNumber, ownProposal, proposed, receives, hasRecipient, proposesFast}
-use Rattle.rules.specs.Rules.{beginsIn, slowNumber, proposesSlow, isNone, agreed, viewOf, reportRule}
+use Rattle.rules.specs.Rules.{beginsIn, slowNumber, proposesSlow, isNone, agreed, viewOf, changeRule, reportRule}
 use Rattle.rules.specs.Rules.{proposalRule}
 use Rattle.rules.specs.Refusals.{fullRoom, Event, aReport, aProposal, eventOf, ruleOf, stepOf, bytesOf, allBytes, size}
 use Rattle.rule_laws.proofs.Steps.{Refused, Accepts, step-cases, step-accepts}
-use Rattle.rule_laws.proofs.Walk.{arrived, slowRound, concludes, then-state, Tested, staged-report, staged-proposal}
+use Rattle.rule_laws.proofs.Walk.{slowRound, concludes, then-state, Tested, staged-change, staged-proposal}
 use Rattle.rule_laws.proofs.Monotone.{next-above-stored}
 use Rattle.rule_laws.proofs.Parts.{proposed-reads}
 use Rattle.rule_laws.proofs.Tests.{Agreeing, agreed-in, agreed-out, slow-above}
@@ -292,9 +292,17 @@ module _ (t : State) where
     unagreed = λ o h a. counted o false _ h a (omega arith);
   }
 
-pub report-sizes : (s : State) (r : Report) → oneOf reportSizes (size (reportRule s r .written)) ≡ true
+pub change-sizes : (t : State) → oneOf reportSizes (size (changeRule t .written)) ≡ true
 unfolding oneOf
-report-sizes s r = let t = arrived s (aReport r) in staged-report (report-tested t) s r (λ e. rw none-size) (λ e. fasted t)
+change-sizes t = staged-change (report-tested t) t (λ e. rw none-size) (λ e. fasted t)
+
+pub report-sizes : (s : State) (r : Report) → oneOf reportSizes (size (reportRule s r .written)) ≡ true
+unfolding reportRule oneOf
+report-sizes s r = if-cases (λ (o : Outcome). oneOf reportSizes (size (o .written)) ≡ true) (repeats s r) _ _ (λ e. rw none-size) (λ e. change-sizes (withNet s _))
+
+pub change-size : (t : State) → size (changeRule t .written) ≤ fullRoom
+unfolding greatest
+change-size t = at-most reportSizes _ (change-sizes t)
 
 -- whatever the event, and whatever the bytes and the room
 pub event-size : (s : State) (e : Event) → size (ruleOf s e .written) ≤ fullRoom

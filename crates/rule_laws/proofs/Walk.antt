@@ -1,5 +1,5 @@
 -- One walk over the rules: what holds of each part of an event, and of parts one after another, holds of every event.
-use mathlib.Core.Path.{_≡_, refl, ap}
+use mathlib.Core.Path.{_≡_, refl, sym, ap, subst}
 use mathlib.Core.Bool.{true, false}
 use mathlib.Core.List.{List, [], _∷_, append-assoc, append-nil}
 use Prim.Native.Nat.{ℕ}
@@ -10,11 +10,12 @@ use Rattle.laws.proofs.Fin.{if-cases}
 use Rattle.records.specs.declared.Report.{Report}
 use Rattle.records.specs.declared.Proposal.{Proposal}
 use Rattle.rules.specs.State.{Mode, None, Fast, Slow, State}
-use Rattle.rules.specs.Rules.{Written, view, Outcome, nothingWritten, andThen, netAfter, withNet, seated, opened, opens, proposesFast, received}
-use Rattle.rules.specs.Rules.{slowCalled, beginsIn, proposesSlow, slowTest, agreed, viewOf, concluded, agreementTest, tests, reportRule}
+use Rattle.rules.specs.Rules.{Written, view, Outcome, nothingWritten, andThen, netAfter, withNet, repeats, seated, opened, opens, proposesFast, received}
+use Rattle.rules.specs.Rules.{slowCalled, beginsIn, proposesSlow, slowTest, agreed, viewOf, concluded, agreementTest, tests, changeRule, reportRule}
 use Rattle.rules.specs.Rules.{proposalRule}
 use Rattle.rules.specs.Refusals.{Event, aReport, aProposal, ruleOf}
 use Rattle.rule_laws.proofs.Parts.{received-reads}
+use Rattle.rule_laws.proofs.Repeats.{repeat-state}
 
 -- the state in which the first change of an event leaves the office: step 1 of a report, or a proposal stored
 abbrev pub arrived : State → Event → State
@@ -70,16 +71,21 @@ module _ {A B P : Outcome → Type 0} (w : Tested A B P) where
   unfolding andThen
   tested-now s a = tested (nothingWritten s) a
 
-  -- a report: no seat, or the fast proposal and then the tests
+  -- the net view has changed: no seat, or the fast proposal and then the tests
+  pub staged-change : (s : State) → (seated s ≡ false → P (nothingWritten s)) → (seated s ≡ true → A (andThen (opens s) proposesFast)) → P (changeRule s)
+  unfolding changeRule
+  staged-change s ends round =
+      if-cases P (seated s) _ _
+      (λ e. rw (then-then (opens s) proposesFast tests) at (tested (andThen (opens s) proposesFast) (round e))) ends
+
+  -- a report: a repeat, or a change
   pub staged-report : (s : State) (r : Report)
+      → (repeats s r ≡ true → P (nothingWritten s))
       → (seated (arrived s (aReport r)) ≡ false → P (nothingWritten (arrived s (aReport r))))
       → (seated (arrived s (aReport r)) ≡ true → A (andThen (opens (arrived s (aReport r))) proposesFast))
       → P (reportRule s r)
   unfolding reportRule
-  staged-report s r ends round =
-      let t = arrived s (aReport r) in
-      if-cases P (seated t) _ _
-      (λ e. rw (then-then (opens t) proposesFast tests) at (tested (andThen (opens t) proposesFast) (round e))) ends
+  staged-report s r again ends round = if-cases P (repeats s r) _ _ again (λ c. staged-change (arrived s (aReport r)) ends round)
 
   -- a proposal: other members than the net view, or the tests
   pub staged-proposal : (s : State) (p : Proposal)
@@ -97,6 +103,7 @@ module _ {A B P : Outcome → Type 0} (w : Tested A B P) where
 -- why nothing is done in a state
 pub data Idle (s : State) : Type 0 where
   at-first : Idle s
+  on-repeat : (r : Report) → repeats s r ≡ true → Idle s
   unseated : seated s ≡ false → Idle s
   other-members : (p : Proposal) → (p .members .bits ≡ s .net .bits → ⊥) → Idle s
   underway : (s .mode ≡ None → ⊥) → Idle s
@@ -164,7 +171,9 @@ module _ {Q P : State → Outcome → Type 0} (w : Walk Q P) where
   pub walk-report : (s : State) (r : Report) → P (arrived s (aReport r)) (reportRule s r)
   walk-report s r =
       let t = arrived s (aReport r) in
-      staged-report (walking t) s r (λ e. ending t (unseated e)) (walk-reported t)
+      staged-report (walking t) s r
+      (λ e. subst (λ (u : State). P u (nothingWritten s)) (sym (repeat-state s r e)) (ending s (on-repeat r e)))
+      (λ e. ending t (unseated e)) (walk-reported t)
 
   pub walk-proposal : (s : State) (p : Proposal) → P (received s p) (proposalRule s p)
   walk-proposal s p =

@@ -1,6 +1,7 @@
--- The worked days at office 0 that document 01 marks with *: what comes of each by the rules, and what the document says.
+-- The worked days at office 0 that document 01 marks with *, N as change request 2 has it, and a day at the ceiling: what comes of each by the
+-- rules, and what the documents say.
 use mathlib.Core.List.{List, [], _∷_, _++_}
-use Prim.Native.Nat.{ℕ, _+_}
+use Prim.Native.Nat.{ℕ, _+_, _-_}
 use lib.ListN.{length}
 use Rattle.laws.specs.Upd.{upd}
 use Rattle.laws.specs.Fin.{allb, anyb, largest}
@@ -12,10 +13,10 @@ use Rattle.offices.specs.Offices.{serves}
 use Rattle.records.specs.Layout.{encodeReport, decodeReport, encodeProposal, decodeProposal, encodeNotice, encodeView, markOf, formFor, formOf}
 use Rattle.records.specs.Layout.{checkFor, checkOf}
 use Rattle.rules.specs.State.{None, Fast, State, fast, slow}
-use Rattle.rules.specs.Rules.{Written, notice, proposal, view, andThen, fresh, netAfter, withNet, seated, opened, noticeOf, opens, nextNumber}
+use Rattle.rules.specs.Rules.{Written, notice, proposal, view, andThen, fresh, netAfter, withNet, repeats, seated, opened, noticeOf, opens, nextNumber}
 use Rattle.rules.specs.Rules.{ownProposal, proposed, receives, proposesFast, received, matching, matchingSlow, aboveOwn, usesOwn, slowCalled}
 use Rattle.rules.specs.Rules.{joinedNumber, slowNumber, proposesSlow, slowTest, agreesKind, isNone, agreed, startOf, viewOf, concluded}
-use Rattle.rules.specs.Rules.{agreementTest, tests, reportRule, proposalRule}
+use Rattle.rules.specs.Rules.{agreementTest, tests, changeRule, reportRule, proposalRule}
 use Rattle.rules.specs.Refusals.{limit, Result, slotWithin, wellFormed, unreadable, eventOf, wrongSender, wrongKind, wrongNumber, withoutSeat}
 use Rattle.rules.specs.Refusals.{strayUsed, notAbove, usedAhead, proposalChecks, accepting, actOf, stepOf, allBytes}
 
@@ -30,7 +31,7 @@ abbrev seen : Result → Day
 seen r =
     record { refusal = r .refusal; bytes = length (allBytes (r .written)); written = r .written; view = r .state .view .number }
 
--- the seats 0 and 4 as sets
+-- the seats 0, 4 and 8 as sets
 abbrev seat0 : ℕ
 seat0 = 0b1
 
@@ -40,6 +41,9 @@ seat4 = 0b10000
 abbrev both : ℕ
 both = 0b10001
 
+abbrev seat8 : ℕ
+seat8 = 0b100000000
+
 -- sixteen numbers, those of offices 0 and 1 first
 abbrev two : ℕ → ℕ → List ℕ
 two a b = a ∷ b ∷ tab 14 (λ o. 0)
@@ -47,9 +51,9 @@ two a b = a ∷ b ∷ tab 14 (λ o. 0)
 -- a record handed in, with the least output; to unfold it is to unfold the rules
 unfoldable pub given : State → List ℕ → Result
 unfolding upd allb anyb largest tab bytesAll bit has unionOf withoutOf serves encodeReport decodeReport encodeProposal decodeProposal
-    encodeNotice encodeView markOf formFor formOf checkFor checkOf andThen fresh netAfter withNet seated opened noticeOf opens nextNumber
+    encodeNotice encodeView markOf formFor formOf checkFor checkOf andThen fresh netAfter withNet repeats seated opened noticeOf opens nextNumber
     ownProposal proposed receives proposesFast received matching matchingSlow aboveOwn usesOwn slowCalled joinedNumber slowNumber proposesSlow
-    slowTest agreesKind isNone agreed startOf viewOf concluded agreementTest tests reportRule proposalRule slotWithin wellFormed unreadable
+    slowTest agreesKind isNone agreed startOf viewOf concluded agreementTest tests changeRule reportRule proposalRule slotWithin wellFormed unreadable
     eventOf wrongSender wrongKind wrongNumber withoutSeat strayUsed notAbove usedAhead proposalChecks accepting actOf stepOf allBytes
 given s b = stepOf s b 182
 
@@ -88,6 +92,9 @@ dayG = P (dayB .state) fast 3 2 2 1
 unfoldable pub lateStart : Result
 lateStart = P (dayB .state) fast 5 1 0 0
 
+unfoldable pub left : Result
+left = reported (dayC .state) 0 seat4
+
 unfoldable pub dayI : Result
 dayI = P before slow 1 5 0 0
 
@@ -96,6 +103,12 @@ dayJ = P before fast 1 1 0 0
 
 unfoldable pub dayK : Result
 dayK = P before fast 1 limit 0 0
+
+unfoldable pub nearLimit : Result
+nearLimit = P before slow 1 (limit - 2) 0 0
+
+unfoldable pub atLimit : Result
+atLimit = report (nearLimit .state) both
 
 unfoldable pub computed : List Day
 computed =
@@ -109,6 +122,7 @@ computed =
     ∷ seen dayJ ∷ seen (report (dayJ .state) both)
     ∷ seen dayK ∷ seen (report (dayK .state) both) ∷ seen (P before fast 1 (limit + 1) 0 0)
     ∷ seen (report (dayB .state) 0)
+    ∷ seen nearLimit ∷ seen atLimit ∷ seen (report (atLimit .state) 0) ∷ seen (report (atLimit .state) seat8)
     ∷ []
 
 -- the records of office 0
@@ -135,7 +149,7 @@ accepts bytes written current = record { refusal = 0; bytes = bytes; written = w
 abbrev refuses : ℕ → ℕ → Day
 refuses refusal current = record { refusal = refusal; bytes = 0; written = []; view = current }
 
--- the days as document 01 has them
+-- the days as the documents have them
 unfoldable pub stated : List Day
 stated =
     -- A: notice 1, view 2 with start 1; 92 bytes
@@ -164,8 +178,13 @@ stated =
     ∷ accepts 0 [] 0
     ∷ refuses 13 0
     ∷ refuses 8 0
-    -- N: notice 3, fast proposal number 3; 98 bytes
-    ∷ accepts 98 (aNotice 3 both ∷ aFast 3 3 1 0 ∷ []) 2
+    -- N: an empty report; 0 bytes
+    ∷ accepts 0 [] 2
+    -- at the ceiling: number L - 2 is accepted; then fast number L - 1, slow number L; an empty report does nothing; one that joins {8} gets 13
+    ∷ accepts 0 [] 0
+    ∷ accepts 182 (aNotice 1 both ∷ aFast 1 (limit - 1) 0 0 ∷ aSlow 1 limit 0 0 ∷ []) 0
+    ∷ accepts 0 [] 0
+    ∷ refuses 13 0
     ∷ []
 
 -- Further days, where document 01 decides against the paper's figure 7: the slow test looks at what is stored, and goes by its own cases.
@@ -196,8 +215,9 @@ furtherComputed =
     ∷ seen (P (dayB .state) slow 1 5 0 0)
     ∷ seen (P (dayC .state) slow 3 2 2 1)
     ∷ seen (P (dayC .state) slow 3 5 2 1)
-    ∷ seen (report (dayC .state) 0)
-    ∷ seen lateStart ∷ seen (report (lateStart .state) 0)
+    ∷ seen left ∷ seen (report (left .state) seat4)
+    ∷ seen (reported (dayC .state) (both + seat8) seat8) ∷ seen (reported (dayC .state) 0 seat8)
+    ∷ seen lateStart ∷ seen (reported (lateStart .state) 0 seat4)
     ∷ seen (report (dayJ .state) seat0)
     ∷ seen (P selfUsed fast 1 1 0 0)
     ∷ []
@@ -219,11 +239,15 @@ furtherStated =
     -- after C, the same two in mode none: step 3 first
     ∷ accepts 98 (aNotice 3 both ∷ aSlow 3 3 2 1 ∷ []) 3
     ∷ accepts 176 (aNotice 3 both ∷ aSlow 3 5 2 1 ∷ aView 4 both 3 3 ∷ []) 4
-    -- after C, an empty report: the used proposals are gone, so no view
-    ∷ accepts 98 (aNotice 3 both ∷ aFast 3 3 2 1 ∷ []) 3
-    -- after B, a proposal with start number 5: view 6; then an empty report: the start number rises to the view number
+    -- after C, {4} leaves: view 4 of {0}; then {4} joins again: the used proposals are gone, so no view
+    ∷ accepts 92 (aNotice 3 seat0 ∷ aView 4 seat0 3 0 ∷ []) 4
+    ∷ accepts 98 (aNotice 4 both ∷ aFast 4 4 3 1 ∷ []) 4
+    -- after C, two repeats: {0, 4, 8} joins and {8} leaves; {8} leaves
+    ∷ accepts 0 [] 3
+    ∷ accepts 0 [] 3
+    -- after B, a proposal with start number 5: view 6; then {4} leaves: the start number rises to the view number
     ∷ accepts 78 (aView 6 both 2 5 ∷ []) 6
-    ∷ accepts 98 (aNotice 6 both ∷ aFast 6 3 2 1 ∷ []) 6
+    ∷ accepts 92 (aNotice 6 seat0 ∷ aView 7 seat0 6 0 ∷ []) 7
     -- after J's proposal from office 1, seat 0 joins alone: the view has no start number for office 1
     ∷ accepts 92 (aNotice 1 seat0 ∷ aView 2 seat0 1 0 ∷ []) 2
     -- office 1 agrees with an own proposal that claims to have used itself: view 2

@@ -65,6 +65,10 @@ withNet s net =
       used = s .used;
     }
 
+-- A repeat: a report that leaves the net view equal to what it was.
+unfoldable pub repeats : State → Report → Bool
+repeats s r = eqb (netAfter (s .net .bits) r) (s .net .bits)
+
 -- Step 2: this office has a seat in the net view.
 unfoldable pub seated : State → Bool
 seated s = serves (s .net .bits) (s .own)
@@ -241,11 +245,13 @@ agreementTest s = ifb (agreed s) (record { state = concluded s; written = view (
 unfoldable pub tests : State → Outcome
 tests s = andThen (slowTest s) agreementTest
 
--- A report arrives.
+-- Steps 2 to 6, in the state that step 1 leaves.
+unfoldable pub changeRule : State → Outcome
+changeRule s = ifb (seated s) (andThen (opens s) (λ u. andThen (proposesFast u) tests)) (nothingWritten s)
+
+-- A report arrives. A repeat does nothing.
 unfoldable pub reportRule : State → Report → Outcome
-reportRule s r =
-    let t = withNet s (netAfter (s .net .bits) r) in
-    ifb (seated t) (andThen (opens t) (λ u. andThen (proposesFast u) tests)) (nothingWritten t)
+reportRule s r = ifb (repeats s r) (nothingWritten s) (changeRule (withNet s (netAfter (s .net .bits) r)))
 
 -- A proposal arrives.
 unfoldable pub proposalRule : State → Proposal → Outcome

@@ -15,6 +15,7 @@ use Rattle.records.specs.declared.Report.{Report}
 use Rattle.records.specs.declared.Proposal.{Proposal}
 use Rattle.records.specs.declared.View.{View}
 use Rattle.rules.specs.State.{Mode, None, Fast, Slow, Slot, fast, slow, kindOf, nothing, keeping, usedFor, numberIn}
+use Rattle.rules.specs.Rules.{netAfter}
 use Rattle.rules.specs.Refusals.{Result}
 use Rattle.runs.specs.World.{Item, SentView, World, WorldEvent, report, delivery, loss, without, reportAnswer, Gives}
 use Rattle.runs.specs.Begins.{InF, Rising}
@@ -210,15 +211,17 @@ module _ (F : ℕ → Bool) where
   Apart w (loss i j place) = InF F i → ⊥
 
   -- An event, as the offices of F see it. Refused where it is one of F: a report does nothing, a delivery loses the front of the link;
-  -- between offices of F only the room or the ceiling refuses.
+  -- between offices of F only the room or the ceiling refuses. A repeat does nothing; other reports give the office another net view.
   pub data Happens (w : World) : WorldEvent → Offices → Offices → Type 0 where
     idles : {e : WorldEvent} {g : Offices} → Apart w e → Happens w e g g
     refuses : {g : Offices} {me room : ℕ} {r : Report} → InF F me → Barred (reportAnswer w me r room) → Happens w (report me r room) g g
+    repeated : {g : Offices} {me room : ℕ} {r : Report} → InF F me → netAfter (g .net me) r ≡ g .net me → Happens w (report me r room) g g
     loses : {g : Offices} {i j place : ℕ} → FromF i j → Happens w (loss i j place) g (relink g i j (without place (g .link i j)))
     drops : {g : Offices} {i j room : ℕ} → FromF i j → (InF F j → (r : Result) × Gives w (delivery i j room) j r × Barred r)
         → Happens w (delivery i j room) g (relink g i j (without 0 (g .link i j)))
-    leaves : {g : Offices} {me room : ℕ} {r : Report} (x : ℕ) → InF F me → serves x me ≡ false → Happens w (report me r room) g (renet g me x)
-    reports : {g h : Offices} {me room : ℕ} {r : Report} (x : ℕ) (p : Proposal) → InF F me → Proposes (renet g me x) me fast p
+    leaves : {g : Offices} {me room : ℕ} {r : Report} (x : ℕ) → InF F me → (x ≡ g .net me → ⊥) → serves x me ≡ false
+        → Happens w (report me r room) g (renet g me x)
+    reports : {g h : Offices} {me room : ℕ} {r : Report} (x : ℕ) (p : Proposal) → InF F me → (x ≡ g .net me → ⊥) → Proposes (renet g me x) me fast p
         → Tests (w .clock) me (propose (renet g me x) me Fast p (w .clock)) h → Happens w (report me r room) g h
     stores : {g : Offices} {i me room : ℕ} (p : Proposal) (l : List Item) → Arrives g me i p l → (p .members .bits ≡ g .net me → ⊥)
         → Happens w (delivery i me room) g (receive g me i p l)

@@ -2,12 +2,13 @@
 use mathlib.Core.Path.{_≡_, refl, sym, ap, _∙_}
 use mathlib.Core.Bool.{Bool, true, false, _&&_}
 use mathlib.Core.Logic.{_⊎_, inl, inr}
-use mathlib.Core.List.{List, [], _∷_}
-use Prim.Native.Nat.{ℕ, suc}
+use mathlib.Core.List.{List, [], _∷_, _++_}
+use Prim.Native.Nat.{ℕ, suc, _+_}
 use native.Mathlib.Omega.{arith}
 use native.Mathlib.Decide.{ℕ-discrete}
-use lib.ListN.{length, take}
-use lib.Seq.{take-all}
+use native.Mathlib.Numerals.{add-one}
+use lib.ListN.{take, length-take}
+use lib.Seq.{take-suc, getD-take}
 use lib.Dec.{eqb}
 use borrow.Author.Tests.{eq-eqb, ne-eqb, eqb-true}
 use Rattle.laws.specs.Lists.{runs}
@@ -19,12 +20,13 @@ use Rattle.records.specs.Fits.{FitsReport}
 use Rattle.records.specs.declared.Report.{Report}
 use Rattle.records.specs.declared.Proposal.{Proposal}
 use Rattle.rules.specs.State.{State}
-use Rattle.rules.specs.Rules.{netAfter, fresh}
-use Rattle.rules.specs.Refusals.{eventOf, ruleOf, Result, stepOf}
-use Rattle.rule_laws.proofs.Steps.{Refused, Accepts, step-accepts, step-cases}
+use Rattle.rules.specs.Rules.{Outcome, netAfter, fresh, reportRule}
+use Rattle.rules.specs.Refusals.{aReport, eventOf, ruleOf, Result, stepOf}
+use Rattle.rule_laws.proofs.Steps.{accepted, Refused, Accepts, step-accepts, step-cases}
+use Rattle.rule_laws.proofs.Repeats.{net-repeat, repeat-rule}
 use Rattle.rule_laws.proofs.Parts.{fresh-reads}
 use Rattle.rule_laws.proofs.Encoded.{report-event, proposal-event}
-use Rattle.runs.specs.World.{Item, World, atFirst, WorldEvent, report, delivery, loss, answered, withLink, idle, delivered, reportAnswer, proposalAnswer, next, run, at, netOne, netBy, Among}
+use Rattle.runs.specs.World.{Item, World, atFirst, WorldEvent, report, delivery, loss, answered, withLink, idle, delivered, reportAnswer, proposalAnswer, next, run, at, Nth, netOne, netBy, Among}
 use Rattle.runs.specs.Begins.{AllAmong}
 use Rattle.runs.proofs.Proposals.{report-net, proposal-net}
 
@@ -74,26 +76,60 @@ net-run w (e ∷ es) i m =
     net-run (next w e) es i (λ n f h. m (suc n) f (let a = h .0 in omega arith, h .1))
     ∙ ap (netBy (next w e) es i) (net-one w e i (m 0 e (omega arith, refl)))
 
--- it stays but for the office's own reports
-pub net-kept : (w : World) (e : WorldEvent) (i : ℕ) → Among e → ((r : Report) (room : ℕ) → e ≡ report i r room → ⊥)
-    → next w e .state i .net .bits ≡ w .state i .net .bits
-net-kept w e i m n = net-one w e i m ∙ not-report e n
+-- what changes it is a report to the office
+pub changing-report : (w : World) (e : WorldEvent) (i x : ℕ) → (netOne w e i x ≡ x → ⊥) → (r : Report) × (room : ℕ) × (e ≡ report i r room)
+changing-report w (delivery a b room) i x n = absurd (n refl)
+changing-report w (loss a b place) i x n = absurd (n refl)
+changing-report w (report o r room) i x n = go (eqb o i) refl
   where
-    not-report : (e : WorldEvent) → ((r : Report) (room : ℕ) → e ≡ report i r room → ⊥) → netOne w e i (w .state i .net .bits) ≡ w .state i .net .bits
-    not-report (delivery a b room) n = refl
-    not-report (loss a b place) n = refl
-    not-report (report o r room) n = go (eqb o i) refl
-      where
-        go : (t : Bool) → eqb o i ≡ t → netOne w (report o r room) i (w .state i .net .bits) ≡ w .state i .net .bits
-        go true k = absurd (n r room (ap (λ (x : ℕ). report x r room) (eqb-true o i k)))
-        go false k = rw k
+    go : (t : Bool) → eqb o i ≡ t → (q : Report) × (k : ℕ) × (report o r room ≡ report i q k)
+    go true e = (r, room, ap (λ (y : ℕ). report y r room) (eqb-true o i e))
+    go false e = absurd (n (rw e))
 
--- at the end of a run that the office began fresh
-pub net-at-end : (states : ℕ → State) (links : ℕ → ℕ → List Item) (es : List WorldEvent) (i : ℕ) → AllAmong es → states i ≡ fresh i
-    → at (atFirst states links) es (length es) .state i .net .bits ≡ netBy (atFirst states links) es i 0
+-- a report that leaves it writes nothing
+pub unchanged-silent : (w : World) (o room : ℕ) (r : Report) → Among (report o r room)
+    → next w (report o r room) .state o .net .bits ≡ w .state o .net .bits → reportAnswer w o r room .written ≡ []
+unfolding next answered reportAnswer
+unchanged-silent w o room r m e = go (step-cases s b room)
+  where
+    s : State
+    s = w .state o
+
+    b : List ℕ
+    b = encodeReport r
+
+    read : eventOf b ≡ aReport r
+    read = report-event r (record { joining = m .1; leaving = m .2 })
+
+    go : Refused s (stepOf s b room) ⊎ Accepts s b room → stepOf s b room .written ≡ []
+    go (inl f) = ap (λ (q : Result). q .written) (f .is)
+    go (inr a) =
+        let did : stepOf s b room ≡ accepted (reportRule s r) = step-accepts s b room a ∙ rw read in
+        let same : netAfter (s .net .bits) r ≡ s .net .bits
+        = sym (report-net s r) ∙ ap (λ (q : Result). q .state .net .bits) (sym did)
+        ∙ ap (λ (t : State). t .net .bits) (sym (upd-same (w .state) o (stepOf s b room .state))) ∙ e in
+        ap (λ (q : Result). q .written) did ∙ ap (λ (u : Outcome). u .written) (repeat-rule s r (net-repeat s r same))
+
+-- by the reports of the list up to event n, and one event more
+net-snoc : (w : World) (es : List WorldEvent) (e : WorldEvent) (i x : ℕ) → netBy w (es ++ (e ∷ [])) i x ≡ netOne (run w es) e i (netBy w es i x)
+unfolding runs netBy
+net-snoc w [] e i x = refl
+net-snoc w (f ∷ es) e i x = net-snoc (next w f) es e i (netOne w f i x)
+
+pub net-next : (w : World) (es : List WorldEvent) (n : ℕ) (e : WorldEvent) (i x : ℕ) → Nth es n e
+    → netBy w (take (n + 1) es) i x ≡ netOne (at w es n) e i (netBy w (take n es) i x)
+net-next w es n e i x h = rw (add-one, take-suc es n e (h .0), h .1) (net-snoc w (take n es) e i x)
+
+among-take : (es : List WorldEvent) (n : ℕ) → AllAmong es → AllAmong (take n es)
+among-take es n m k e h =
+    let a = length-take n es in
+    let l = h .0 in
+    m k e (omega arith, sym (getD-take n es k e (omega arith)) ∙ h .1)
+
+-- before event n of a run that the office began fresh
+pub net-at : (states : ℕ → State) (links : ℕ → ℕ → List Item) (es : List WorldEvent) (i : ℕ) → AllAmong es → states i ≡ fresh i
+    → (n : ℕ) → at (atFirst states links) es n .state i .net .bits ≡ netBy (atFirst states links) (take n es) i 0
 unfolding atFirst
-net-at-end states links es i m f =
-    let z : take (length es) es ≡ es = take-all (length es) es (omega arith) in
-    ap (λ (l : List WorldEvent). run (atFirst states links) l .state i .net .bits) z
-    ∙ net-run (atFirst states links) es i m
-    ∙ ap (netBy (atFirst states links) es i) (ap (λ (s : State). s .net .bits) f ∙ fresh-reads i .net-is)
+net-at states links es i m f n =
+    net-run (atFirst states links) (take n es) i (among-take es n m)
+    ∙ ap (netBy (atFirst states links) (take n es) i) (ap (λ (s : State). s .net .bits) f ∙ fresh-reads i .net-is)

@@ -19,7 +19,7 @@ use Rattle.runs.specs.Begins.{InF, Rising}
 use Rattle.laws.proofs.Grid.{upd2-cases, upd2-same, upd2-other}
 use Rattle.runs.proofs.Arrays.{Offices, mailTo, renet, propose, receive, conclude, relink, other, Proposes, Agreed, Arrives, FromF, Numbers}
 use Rattle.runs.proofs.Arrays.{SlowTest, not-called, called, not-agreed, agreed, Tests, both}
-use Rattle.runs.proofs.Arrays.{Happens, idles, refuses, loses, drops, leaves, reports, stores, answers}
+use Rattle.runs.proofs.Arrays.{Happens, idles, refuses, repeated, loses, drops, leaves, reports, stores, answers}
 use Rattle.runs.proofs.Links.{every-without, rising-le, rising-low, rising-high, rising-snoc, rising-tail, rising-head, rising-without}
 
 -- what a proposal p puts on the link to office j: itself or nothing
@@ -290,10 +290,11 @@ module _ (F : ℕ → Bool) where
   pub numbers-acts : {w : World} {e : WorldEvent} {g h : Offices} → Numbers F g → Happens F w e g h → Numbers F h
   numbers-acts n (idles a) = n
   numbers-acts n (refuses o b) = n
+  numbers-acts n (repeated o e) = n
   numbers-acts {g = g} n (loses {i = i} {j = j} {place = place} f) = numbers-relink g i j place n
   numbers-acts {g = g} n (drops {i = i} {j = j} f b) = numbers-relink g i j 0 n
-  numbers-acts {g = g} n (leaves {me = me} x o b) = numbers-renet g me x n
-  numbers-acts {w} {g = g} n (reports {me = me} x p o k s) =
+  numbers-acts {g = g} n (leaves {me = me} x o c b) = numbers-renet g me x n
+  numbers-acts {w} {g = g} n (reports {me = me} x p o c k s) =
       numbers-tests o (numbers-propose (renet g me x) me Fast p (w .clock) (numbers-renet g me x n) o k) s
   numbers-acts {g = g} n (stores {i = i} {me = me} p l a b) = numbers-receive g me i p l n a
   numbers-acts {g = g} n (answers {i = i} {me = me} p l a b s) = numbers-tests (a .at-office) (numbers-receive g me i p l n a) s

@@ -15,10 +15,10 @@ use Rattle.records.specs.Layout.{encodeReport, decodeReport, encodeProposal, de
 use Rattle.records.specs.declared.Proposal.{Proposal}
 use Rattle.records.specs.declared.View.{View}
 use Rattle.rules.specs.State.{fast, zeros}
-use Rattle.rules.specs.Rules.{andThen, fresh, netAfter, withNet, seated, opened, noticeOf, opens, nextNumber}
+use Rattle.rules.specs.Rules.{andThen, fresh, netAfter, withNet, repeats, seated, opened, noticeOf, opens, nextNumber}
 use Rattle.rules.specs.Rules.{ownProposal, proposed, receives, proposesFast, received, matching, matchingSlow, aboveOwn, usesOwn, slowCalled}
 use Rattle.rules.specs.Rules.{joinedNumber, slowNumber, proposesSlow, slowTest, agreesKind, isNone, agreed, startOf, viewOf, concluded}
-use Rattle.rules.specs.Rules.{agreementTest, tests, reportRule, proposalRule}
+use Rattle.rules.specs.Rules.{agreementTest, tests, changeRule, reportRule, proposalRule}
 use Rattle.rules.specs.Refusals.{slotWithin, wellFormed, unreadable, eventOf, wrongSender, wrongKind, wrongNumber, withoutSeat}
 use Rattle.rules.specs.Refusals.{strayUsed, notAbove, usedAhead, proposalChecks, accepting, actOf, stepOf}
 use Rattle.runs.specs.Office.{Input, answerTo, LogEntry, stateAfter, logOf, Before, at-once, testedIn, CountedAt}
@@ -56,9 +56,9 @@ viewC = record { number = 3; members = record { bits = 0b10001 }; starts = two 2
 pub days-count : Before dayA dayC (logOf (fresh 0) threeDays) × CountedAt dayA 0 (made 0 0b1 1 1 zeros)
     × CountedAt dayC 0 (made 0 0b10001 2 2 (two 1 0)) × CountedAt dayC 1 (made 1 0b10001 1 1 zeros)
 unfolding runs upd allb anyb largest tab bytesAll bit has unionOf withoutOf serves encodeReport decodeReport encodeProposal decodeProposal
-    markOf formFor formOf checkFor checkOf andThen fresh netAfter withNet seated opened noticeOf opens nextNumber ownProposal proposed receives
+    markOf formFor formOf checkFor checkOf andThen fresh netAfter withNet repeats seated opened noticeOf opens nextNumber ownProposal proposed receives
     proposesFast received matching matchingSlow aboveOwn usesOwn slowCalled joinedNumber slowNumber proposesSlow slowTest agreesKind isNone
-    agreed startOf viewOf concluded agreementTest tests reportRule proposalRule slotWithin wellFormed unreadable eventOf wrongSender wrongKind
+    agreed startOf viewOf concluded agreementTest tests changeRule reportRule proposalRule slotWithin wellFormed unreadable eventOf wrongSender wrongKind
     wrongNumber withoutSeat strayUsed notAbove usedAhead proposalChecks accepting actOf stepOf answerTo logOf testedIn
 days-count = (
   at-once refl (List·Memᴰ·tail (List·Memᴰ·head refl)),

@@ -128,6 +128,7 @@ module _ (s u : State) (r : Renews s u) where
 report-ends : (s : State) (r : Report) → EventDone s (testedIn s (aReport r)) (reportRule s r)
 unfolding testedIn
 report-ends s r = staged-report (stages s u (renews-then net (renews-then (renews-opened t) (fast-renews (opened t))))) s r
+    (λ e. no-view-ends s _ (nothingWritten s) (renews-none s) none)
     (λ e. no-view-ends s _ (nothingWritten t) net none)
     (λ e. unfold andThen opens in record { is = refl; no-view = every-append (opens-no-view t) (fast-every NoView (opened t) tt) })
   where

@@ -1,9 +1,9 @@
 -- The proposals that an event makes, in every state of every office: who they name, what they tell, that they are well formed.
-use mathlib.Core.Path.{_≡_, refl, _∙_}
-use mathlib.Core.Bool.{false}
+use mathlib.Core.Path.{_≡_, refl, sym, ap, _∙_}
+use mathlib.Core.Bool.{true, false}
 use mathlib.Core.Logic.{_⊎_, inl, inr}
 use mathlib.Core.List.{List}
-use Prim.Native.Nat.{ℕ, _≤_, _<_}
+use Prim.Native.Nat.{ℕ, _^_, _≤_, _<_}
 use native.Mathlib.Omega.{arith}
 use lib.ListN.{length}
 use Rattle.laws.specs.Lists.{Every, none, more}
@@ -12,15 +12,17 @@ use Rattle.laws.proofs.Fin.{if-cases, true-false}
 use Rattle.laws.proofs.Tab.{length-tab}
 use Rattle.laws.specs.Upd.{ifb}
 use Rattle.offices.specs.Offices.{serves}
+use Rattle.records.specs.Fits.{FitsReport}
 use Rattle.records.specs.declared.Report.{Report}
 use Rattle.records.specs.declared.Proposal.{Proposal}
 use Rattle.records.specs.declared.Notice.{Notice}
 use Rattle.records.specs.declared.View.{View}
 use Rattle.rules.specs.State.{Mode, None, Fast, Slow, State, fast, slow, kindOf, usedAt, usedFor}
-use Rattle.rules.specs.Rules.{Written, notice, proposal, view, Outcome, nothingWritten, andThen, hasRecipient, netAfter, seated, ownProposal, proposed, opens, slowNumber, nextNumber, proposesSlow, proposesFast, received, reportRule, proposalRule}
+use Rattle.rules.specs.Rules.{Written, notice, proposal, view, Outcome, nothingWritten, andThen, hasRecipient, netAfter, repeats, seated, ownProposal, proposed, opens, slowNumber, nextNumber, proposesSlow, proposesFast, received, reportRule, proposalRule}
 use Rattle.rules.specs.Refusals.{Event, aReport, aProposal, eventOf, stepOf}
 use Rattle.rule_laws.proofs.Steps.{Refused, Accepts, step-accepts, step-cases}
 use Rattle.rule_laws.proofs.Parts.{withNet-reads, opened-reads, proposed-reads, received-reads, concluded-reads, made-is, made-used}
+use Rattle.rule_laws.proofs.Repeats.{repeat-state, again-repeats}
 use Rattle.rule_laws.proofs.Tests.{slow-above, next-above}
 use Rattle.rule_laws.proofs.Walk.{arrived, concludes, ProposesFast, ProposesSlow, after-opening, in-round, Walk, Tested, staged-report, staged-proposal, walk-report, walk-proposal, walk-event}
 
@@ -238,7 +240,8 @@ nowhere : {P : Outcome → Type 0} → Tested (λ o. ⊥) (λ o. ⊥) P
 nowhere = record { called = λ o a. absurd a; uncalled = λ o a. absurd a; agrees = λ o a. absurd a; unagreed = λ o a. absurd a }
 
 pub unseated-report : (s : State) (r : Report) → seated (arrived s (aReport r)) ≡ false → reportRule s r ≡ nothingWritten (arrived s (aReport r))
-unseated-report s r e = staged-report {P = λ o. o ≡ nothingWritten (arrived s (aReport r))} nowhere s r (λ k. refl) (λ k. absurd (true-false _ k e))
+unseated-report s r e = staged-report {P = λ o. o ≡ nothingWritten (arrived s (aReport r))} nowhere s r
+    (λ k. ap nothingWritten (sym (repeat-state s r k))) (λ k. refl) (λ k. absurd (true-false _ k e))
 
 pub other-members : (s : State) (p : Proposal) → (p .members .bits ≡ s .net .bits → ⊥) → proposalRule s p ≡ nothingWritten (received s p)
 other-members s p n = staged-proposal {P = λ o. o ≡ nothingWritten (received s p)} nowhere s p (λ k. refl) (λ e. absurd (n e))
@@ -246,6 +249,10 @@ other-members s p n = staged-proposal {P = λ o. o ≡ nothingWritten (received 
 -- the net view after a report is that of step 1, and after a proposal stays
 pub report-net : (s : State) (r : Report) → reportRule s r .state .net .bits ≡ netAfter (s .net .bits) r
 report-net s r = makes-report s r .net ∙ withNet-reads s (netAfter (s .net .bits) r) .net-is
+
+-- so the same report again is a repeat
+pub same-report-repeats : (s : State) (r : Report) → s .net .bits < 2 ^ 64 → FitsReport r → repeats (reportRule s r .state) r ≡ true
+same-report-repeats s r l f = again-repeats (reportRule s r .state) (s .net .bits) r l f (report-net s r)
 
 pub proposal-net : (s : State) (p : Proposal) → proposalRule s p .state .net .bits ≡ s .net .bits
 proposal-net s p = makes-proposal s p .net ∙ received-reads s p .net-is

@@ -15,15 +15,16 @@ use Rattle.records.specs.Fits.{FitsReport}
 use Rattle.records.proofs.RoundTrip.{report-checked}
 use Rattle.records.specs.declared.Report.{Report}
 use Rattle.rules.specs.State.{State, usedAt}
-use Rattle.rules.specs.Rules.{nothingWritten, netAfter, withNet, seated, receives, reportRule}
+use Rattle.rules.specs.Rules.{nothingWritten, netAfter, withNet, repeats, seated, receives, reportRule}
 use Rattle.rules.specs.Refusals.{limit, wellFormed, Event, aReport, ruleOf, Result, stepOf}
 use Rattle.rule_laws.proofs.Steps.{accepted, Refused, Accepts, well-facts, step-accepts}
+use Rattle.rule_laws.proofs.Repeats.{repeat-net, change-net, repeat-rule}
 use Rattle.rule_laws.proofs.Parts.{withNet-reads}
 use Rattle.rule_laws.proofs.Encoded.{report-event}
 use Rattle.rule_laws.proofs.Walk.{staged-report}
 use Rattle.runs.specs.World.{World, report, answered, reportAnswer, Among}
 use Rattle.runs.specs.Begins.{InF}
-use Rattle.runs.proofs.Arrays.{Offices, Barred, renet, Numbers, Happens, refuses, leaves, reports}
+use Rattle.runs.proofs.Arrays.{Offices, Barred, renet, Numbers, Happens, refuses, repeated, leaves, reports}
 use Rattle.runs.proofs.StateArrays.{Sim, sim-renet}
 use Rattle.runs.proofs.RulesArrays.{Moved, moved-none, moving, fast-moves}
 use Rattle.runs.proofs.Proposals.{EachProposal, each-map, Begun, Makes, makes-report, unseated-report}
@@ -53,18 +54,17 @@ module _ (F : ℕ → Bool) where
     abbrev Acted : Result → Type 0
     Acted r = (h : Offices) × Happens F w (report me rep room) g h × SeenAll F (answered w me r) h
 
-    -- refused: nothing happens
-    refused-acts : Refused mine (stepOf mine bytes room) → Barred (stepOf mine bytes room) → Acted (reportAnswer w me rep room)
-    unfolding reportAnswer answered
-    refused-acts r b = (
-      g,
-      refuses q b,
-      subst (λ (z : Result). SeenAll F (answered w me z) g) (sym (r .is))
-          (seen-moved F w g g me (nothingWritten mine) (seen-but F w g me seen) ans q (moved-none (w .clock) me g mine sim)),
-    )
+    -- the office stays as it is and writes nothing
+    unmoved : SeenAll F (answered w me (accepted (nothingWritten mine))) g
+    unmoved = seen-moved F w g g me (nothingWritten mine) (seen-but F w g me seen) ans q (moved-none (w .clock) me g mine sim)
       where
         ans : GoodAnswer F me (nothingWritten mine)
         ans = record { is-good = good; own = sim .own; sends = none; below = none; names = none }
+
+    -- refused: nothing happens
+    refused-acts : Refused mine (stepOf mine bytes room) → Barred (stepOf mine bytes room) → Acted (reportAnswer w me rep room)
+    unfolding reportAnswer answered
+    refused-acts r b = (g, refuses q b, subst (λ (z : Result). SeenAll F (answered w me z) g) (sym (r .is)) unmoved)
 
     abbrev made-net : ℕ
     made-net = netAfter (mine .net .bits) rep
@@ -141,32 +141,41 @@ module _ (F : ℕ → Bool) where
             names = each-map (λ p m. m .sender ∙ turned-own) (makes .sends);
           }
 
+      -- a repeat: nothing happens
+      again : repeats mine rep ≡ true → Acted (accepted (reportRule mine rep))
+      again c = rw (repeat-rule mine rep c) (g, repeated q (rw (sim .net) at (repeat-net mine rep c)), unmoved)
+
+      -- another net view
+      changed : repeats mine rep ≡ false → made-net ≡ g .net me → ⊥
+      changed c e = change-net mine rep c (e ∙ sym (sim .net))
+
       -- no seat of its own: nothing more happens
-      unseated : seated turned ≡ false → Acted (accepted (reportRule mine rep))
+      unseated : repeats mine rep ≡ false → seated turned ≡ false → Acted (accepted (reportRule mine rep))
       unfolding seated
-      unseated e =
+      unseated c e =
           let r = unseated-report mine rep e in (
             renet g me made-net,
-            leaves made-net q (ap (λ (x : ℕ). serves x me) (sym turned-net) ∙ ap (serves (turned .net .bits)) (sym turned-own) ∙ e),
+            leaves made-net q (changed c) (ap (λ (x : ℕ). serves x me) (sym turned-net) ∙ ap (serves (turned .net .bits)) (sym turned-own) ∙ e),
             ends (renet g me made-net) (rw r (moved-none (w .clock) me (renet g me made-net) turned sim-turned)) (rw r none),
           )
 
       -- a fast proposal and the tests
-      opened-up : seated turned ≡ true → Acted (accepted (reportRule mine rep))
+      opened-up : repeats mine rep ≡ false → seated turned ≡ true → Acted (accepted (reportRule mine rep))
       unfolding seated
-      opened-up e =
+      opened-up c e =
           let f = fast-moves (w .clock) me turned (renet g me made-net) sim-turned in
-          let t = staged-report (moving (w .clock) me (renet g me made-net) _) mine rep (λ n. absurd (true-false _ e n)) (λ _. f .1) in
+          let t = staged-report (moving (w .clock) me (renet g me made-net) _) mine rep (λ k. absurd (true-false _ k c)) (λ n. absurd (true-false _ e n)) (λ _. f .1) in
           let seat : serves (turned .net .bits) me ≡ true = ap (serves (turned .net .bits)) (sym turned-own) ∙ e in
           let valid = made-valid turned (reportRule mine rep .state) me turned-own (q .0) (rw turned-net net-below) seat within (well-facts _ passes) turned-begun in
-          (t .0, reports made-net _ q (f .0) (t .1), ends (t .0) (t .2) (each-map valid (makes-report mine rep .sends)))
+          (t .0, reports made-net _ q (changed c) (f .0) (t .1), ends (t .0) (t .2) (each-map valid (makes-report mine rep .sends)))
 
       accepted-acts : Acted (reportAnswer w me rep room)
-      accepted-acts = rw answer (go (seated turned) refl)
+      accepted-acts = rw answer (go (repeats mine rep) refl (seated turned) refl)
         where
-          go : (t : Bool) → seated turned ≡ t → Acted (accepted (reportRule mine rep))
-          go true e = opened-up e
-          go false e = unseated e
+          go : (u : Bool) → repeats mine rep ≡ u → (t : Bool) → seated turned ≡ t → Acted (accepted (reportRule mine rep))
+          go true c t e = again c
+          go false c true e = opened-up c e
+          go false c false e = unseated c e
 
     pub report-acts : Acted (reportAnswer w me rep room)
     report-acts = go (accepted-or-barred mine bytes room (aReport rep) (good .passes) (report-checked rep) (report-event rep fits) refl)

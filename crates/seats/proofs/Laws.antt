@@ -125,3 +125,25 @@ same-seats x y hx hy h = bit-ext x y (λ s. go s (decLt s 64))
     go : (s : ℕ) → Dec (s < 64) → bit x s ≡ bit y s
     go s (yes l) = same-digit (bit x s) (bit y s) (bit-lt x s) (bit-lt y s) (h s l)
     go s (no n) = bit-high 64 s x hx (omega arith) ∙ sym (bit-high 64 s y hy (omega arith))
+
+-- joining and leaving the same seats once more changes nothing
+pub joined-again : (x joining leaving : ℕ) → x < 2 ^ 64 → joining < 2 ^ 64 → leaving < 2 ^ 64
+    → withoutOf (unionOf (withoutOf (unionOf x joining) leaving) joining) leaving ≡ withoutOf (unionOf x joining) leaving
+joined-again x joining leaving hx hj hl =
+    same-seats _ _ (without-lt _ leaving (union-lt once joining below hj)) below
+    (λ s h. rw (has-without (unionOf once joining) leaving s h hl, has-union once joining s, has-without (unionOf x joining) leaving s h hl, has-union x joining s)
+    (again (has x s) (has joining s) (has leaving s)))
+  where
+    once : ℕ
+    once = withoutOf (unionOf x joining) leaving
+
+    below : once < 2 ^ 64
+    below = without-lt _ leaving (union-lt x joining hx hj)
+
+    again : (a b c : Bool) → ((a || b) && not c || b) && not c ≡ (a || b) && not c
+    again true b true = and-false b
+    again true b false = refl
+    again false true true = refl
+    again false true false = refl
+    again false false true = refl
+    again false false false = refl

@@ -1,12 +1,12 @@
--- The settling rule at work: scenarios that fail none of its hypotheses (so that `meets-all` gives them, as it does for the first), small enough
--- to follow by hand. At the end nothing is on its way between the offices, and their latest views are one. Seat 0 is of office 0, seat 4 of
+-- The settling rule at work: scenarios that fail none of its hypotheses (so that `meets-all` gives them, as it does for the first and the last),
+-- small enough to follow by hand. At the end nothing is on its way between the offices, and their latest views are one. Seat 0 is of office 0, seat 4 of
 -- office 1, seat 8 of office 2, seat 12 of office 3. {0, 4} is 17, {8} is 256, {0, 4, 8} is 273, {12} is 4096, {0, 12} is 4097.
 use mathlib.Core.Path.{_≡_, refl, ap}
 use mathlib.Core.List.{[], _∷_}
 use Rattle.rules.specs.State.{zeros}
 use Rattle.runs.specs.World.{report, delivery, loss}
 use Rattle.settling.specs.Statement.{Assumed, AllReported}
-use Rattle.settling.specs.Scenarios.{Scenario, stateIn, linkIn, lastTo}
+use Rattle.settling.specs.Scenarios.{Scenario, stateIn, linkIn, changeAt}
 use Rattle.settling.proofs.Scenarios.{meets-all, reported}
 use Rattle.settling.specs.Scenarios.{Summary, summary, no-view, sent-at, join, leave, hand, inNone, three}
 
@@ -31,64 +31,66 @@ unfolding summary
 plain-summary = refl
 
 -- So every hypothesis of the rule holds of it, and the last report has been acted on at point 2.
-pub plain-assumed : Assumed 17 (stateIn []) (linkIn []) (plain .events) (lastTo (plain .events))
+pub plain-assumed : Assumed 17 (stateIn []) (linkIn []) (plain .events) (changeAt plain .place)
 unfolding summary
 plain-assumed = meets-all plain (ap (λ (s : Summary). s .fails) plain-summary)
 
-pub plain-reported : AllReported 17 (stateIn []) (linkIn []) (plain .events) (lastTo (plain .events)) 2
+pub plain-reported : AllReported 17 (stateIn []) (linkIn []) (plain .events) (changeAt plain .place) 2
 unfolding summary
 plain-reported = reported plain 1 refl
 
--- 2. After 1, office 0 alone gets an empty report (event 4): notice 2, fast proposal number 2 with used 1, 1. Office 1 is in mode
--- none: it opens with start 2 and makes slow proposal 3. Office 0 joins number 3 and sends view 3, then office 1 does.
+-- 2. After 1, office 0 alone is told that seat 4 left (event 4: view 3 of {0}, number 2) and that it joined again (event 5): notice 3, fast
+-- proposal number 3 with used 2, 1. Office 1 is in mode none: it opens with start 2 and makes slow proposal 4. Office 0 joins number 4 and sends
+-- view 4, then office 1 does.
 abbrev again : Scenario
 again =
     record {
       set = 17;
       begun = [];
       posted = [];
-      events = join 0 17 ∷ join 1 17 ∷ hand 0 1 ∷ hand 1 0 ∷ join 0 0 ∷ hand 0 1 ∷ hand 1 0 ∷ hand 0 1 ∷ [];
+      events = join 0 17 ∷ join 1 17 ∷ hand 0 1 ∷ hand 1 0 ∷ leave 0 16 ∷ join 0 16 ∷ hand 0 1 ∷ hand 1 0 ∷ hand 0 1 ∷ [];
     }
 
 again-summary :
     summary again
     ≡ record {
       fails = [];
-      point = 5;
+      point = 6;
       on-way = 1;
       offices = 2;
       bound = 7;
       delivered = 3;
-      answers = 0 ∷ 0 ∷ 0 ∷ 0 ∷ 0 ∷ 0 ∷ 0 ∷ 0 ∷ [];
+      answers = 0 ∷ 0 ∷ 0 ∷ 0 ∷ 0 ∷ 0 ∷ 0 ∷ 0 ∷ 0 ∷ [];
       left = 0;
-      views = sent-at 6 3 17 (three 2 2 0) ∷ sent-at 7 3 17 (three 2 2 0) ∷ no-view ∷ [];
+      views = sent-at 7 4 17 (three 3 2 0) ∷ sent-at 8 4 17 (three 3 2 0) ∷ no-view ∷ [];
     }
 unfolding summary
 again-summary = refl
 
--- 3. Office 0 has sent view 2, but its proposal to office 1 is lost; only then comes its last report (event 4). The new proposal has
--- used number 1 for office 1, which is still in mode fast with own number 1: slow agreement is called for, number 3 with start 1.
+-- 3. Office 0 has sent view 2, but its proposal to office 1 is lost; only then is it told that seat 4 left and joined again (events 4 and 5).
+-- The new proposal has used number 1 for office 1, which is still in mode fast with own number 1: slow agreement is called for, number 4 with
+-- start 1.
 abbrev lossy : Scenario
 lossy =
     record {
       set = 17;
       begun = [];
       posted = [];
-      events = join 0 17 ∷ join 1 17 ∷ hand 1 0 ∷ loss 0 1 0 ∷ join 0 0 ∷ hand 0 1 ∷ hand 1 0 ∷ hand 0 1 ∷ [];
+      events = join 0 17 ∷ join 1 17 ∷ hand 1 0 ∷ loss 0 1 0 ∷ leave 0 16 ∷ join 0 16 ∷ hand 0 1 ∷ hand 1 0 ∷ hand 0 1 ∷ [];
     }
 
 lossy-summary :
     summary lossy
     ≡ record {
       fails = [];
-      point = 5;
+      point = 6;
       on-way = 1;
       offices = 2;
       bound = 7;
       delivered = 3;
-      answers = 0 ∷ 0 ∷ 0 ∷ 0 ∷ 0 ∷ 0 ∷ 0 ∷ [];
+      answers = 0 ∷ 0 ∷ 0 ∷ 0 ∷ 0 ∷ 0 ∷ 0 ∷ 0 ∷ [];
       left = 0;
-      views = sent-at 6 3 17 (three 2 1 0) ∷ sent-at 7 3 17 (three 2 1 0) ∷ no-view ∷ [];
+      views = sent-at 7 4 17 (three 3 1 0) ∷ sent-at 8 4 17 (three 3 1 0) ∷ no-view ∷ [];
     }
 unfolding summary
 lossy-summary = refl
@@ -162,3 +164,41 @@ overtaken-summary :
     }
 unfolding summary
 overtaken-summary = refl
+
+-- 6. Repeats. Office 0 is told of {0, 4} twice before the last report of office 1 (event 2), which is told of it twice too. On the way office 0
+-- is told that {0, 4, 8} joins and {8} leaves, and after both have sent view 2 that {4} joins and office 1 that {8} leaves: nothing comes of these.
+abbrev repeating : Scenario
+repeating =
+    record {
+      set = 17;
+      begun = [];
+      posted = [];
+      events =
+          join 0 17 ∷ join 0 17 ∷ join 1 17 ∷ join 1 17 ∷ hand 0 1
+          ∷ report 0 (record { joining = record { bits = 273 }; leaving = record { bits = 256 } }) 182
+          ∷ hand 1 0 ∷ join 0 16 ∷ leave 1 256 ∷ [];
+    }
+
+repeating-summary :
+    summary repeating
+    ≡ record {
+      fails = [];
+      point = 3;
+      on-way = 2;
+      offices = 2;
+      bound = 10;
+      delivered = 2;
+      answers = 0 ∷ 0 ∷ 0 ∷ 0 ∷ 0 ∷ 0 ∷ 0 ∷ 0 ∷ 0 ∷ [];
+      left = 0;
+      views = sent-at 6 2 17 (three 1 1 0) ∷ sent-at 4 2 17 (three 1 1 0) ∷ no-view ∷ [];
+    }
+unfolding summary
+repeating-summary = refl
+
+pub repeating-assumed : Assumed 17 (stateIn []) (linkIn []) (repeating .events) (changeAt repeating .place)
+unfolding summary
+repeating-assumed = meets-all repeating (ap (λ (s : Summary). s .fails) repeating-summary)
+
+pub repeating-reported : AllReported 17 (stateIn []) (linkIn []) (repeating .events) (changeAt repeating .place) 3
+unfolding summary
+repeating-reported = reported repeating 1 refl

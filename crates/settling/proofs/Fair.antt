@@ -20,7 +20,7 @@ use Rattle.rules.specs.Refusals.{Result}
 use Rattle.runs.specs.World.{Item, World, WorldEvent, report, delivery, loss, next, Gives, to-report, Among}
 use Rattle.runs.proofs.Arrays.{Offices, Barred, renet, propose, conclude, Arrives, Apart}
 use Rattle.runs.proofs.Arrays.{SlowTest, not-called, called, not-agreed, agreed, Tests, both}
-use Rattle.runs.proofs.Arrays.{Happens, idles, refuses, loses, drops, leaves, reports, stores, answers}
+use Rattle.runs.proofs.Arrays.{Happens, idles, refuses, repeated, loses, drops, leaves, reports, stores, answers}
 use Rattle.runs.proofs.WorldArrays.{SeenAll, below-sixteen}
 use Rattle.settling.specs.Statement.{between, deliveryOne, OfA}
 use Rattle.settling.proofs.Invariants.{NoLast, NoLastBut, HappensFairly, fair-idle, fair-loss, fair-leave, fair-report, fair-store, fair-answer}
@@ -69,14 +69,18 @@ module _ (A : ℕ) (w : World) (i j room : ℕ) where
       go true false e f = rw (e, f)
       go true true e f = rw (out (li, e) (lj, f)) (none (between A i j))
 
+-- the event gives office i another net view
+abbrev pub Renewed : World → WorldEvent → ℕ → Type 0
+Renewed w e i = next w e .state i .net .bits ≡ w .state i .net .bits → ⊥
+
 module _ (A : ℕ) (last : ℕ → ℕ) where
   -- what is assumed of an event e in the world w
   pub record Fair (w : World) (e : WorldEvent) : Type 0 where
     pub answers : (i : ℕ) (r : Result) → OfA A i → Gives w e i r → (r .refusal ≡ 3 → ⊥) × (r .refusal ≡ 13 → ⊥)
     pub keeps : (i j place : ℕ) (x : Item) → OfA A i → OfA A j → e ≡ loss i j place → place < length (w .link i j)
         → getD (w .link i j) place x ≡ x → x .sent < last i
-    pub not-after : (i : ℕ) (r : Report) (room : ℕ) → OfA A i → e ≡ report i r room → w .clock ≤ last i
-    pub is-last : (i : ℕ) → OfA A i → last i ≡ w .clock → (r : Report) × (room : ℕ) × (e ≡ report i r room)
+    pub not-after : (i : ℕ) → OfA A i → Renewed w e i → w .clock ≤ last i
+    pub is-last : (i : ℕ) → OfA A i → last i ≡ w .clock → (r : Report) × (room : ℕ) × (e ≡ report i r room) × Renewed w e i
     pub final : (i : ℕ) → OfA A i → last i ≡ w .clock → next w e .state i .net .bits ≡ A
 
   not-barred : {w : World} {e : WorldEvent} {i : ℕ} {r : Result} → Fair w e → OfA A i → Gives w e i r → Barred r → ⊥
@@ -115,9 +119,19 @@ module _ (A : ℕ) (last : ℕ → ℕ) where
 
   -- what an event does is what it does where the hypotheses hold
   module _ (w : World) (g : Offices) (s : SeenAll (serves A) w g) where
+    -- an office of A as it stands in arrays before and after the event
+    moved-net : (e : WorldEvent) (h : Offices) → SeenAll (serves A) (next w e) h → (me : ℕ) → OfA A me → h .net me ≡ next w e .state me .net .bits
+    moved-net e h v me o = sym (v .sim me o (below-sixteen (serves A) (o .0)) .net)
+
+    same-net : (me : ℕ) → OfA A me → w .state me .net .bits ≡ g .net me
+    same-net me o = s .sim me o (below-sixteen (serves A) (o .0)) .net
+
+    renewed : (e : WorldEvent) (h : Offices) → SeenAll (serves A) (next w e) h → (me : ℕ) → OfA A me → (h .net me ≡ g .net me → ⊥) → Renewed w e me
+    renewed e h v me o n z = n (moved-net e h v me o ∙ z ∙ same-net me o)
+
     -- the net view that the last report leaves
     net-after : (e : WorldEvent) (h : Offices) → Fair w e → SeenAll (serves A) (next w e) h → (me : ℕ) → OfA A me → last me ≡ w .clock → h .net me ≡ A
-    net-after e h f v me o l = sym (v .sim me o (below-sixteen (serves A) (o .0)) .net) ∙ f .final me o l
+    net-after e h f v me o l = moved-net e h v me o ∙ f .final me o l
 
     untouched : (e : WorldEvent) → Among e → Fair w e → Apart (serves A) w e → HappensFairly A last (w .clock) (deliveryOne A w e) g g
     untouched (report o r room) m f a = fair-idle (none-due w o r room f (λ q. absurd (a q)))
@@ -133,6 +147,9 @@ module _ (A : ℕ) (last : ℕ → ℕ) where
         → HappensFairly A last (w .clock) (deliveryOne A w e) g h
     fair-acts {e} m f (idles a) v = untouched e m f a
     fair-acts m f (refuses o b) v = absurd (not-barred f o (to-report _ _ _) b)
+    fair-acts m f (repeated {me = me} {room = room} {r = r} o k) v =
+        fair-idle (none-due w me r room f (λ q l.
+        f .is-last me q l .3 (sym (moved-net (report me r room) g v me o) ∙ sym (same-net me o))))
     fair-acts m f (loses {i = i} {j = j} {place = place} k) v =
         let same = s .links i j k in
         fair-loss i j place (due-at-loss w i j place f)
@@ -141,19 +158,21 @@ module _ (A : ℕ) (last : ℕ → ℕ) where
         let out : OfA A j → ⊥ = λ oj. let r = b oj in not-barred f oj (r .1) (r .2) in
         rw (counted-out A w i j room (λ a c. absurd (out c)) (m .0) (m .1)) (fair-loss i j 0 (due-at-delivery w i j room f)
         (record { from-office = k .0; to-office = k .1; others = k .2; early = λ oj. absurd (out oj) }))
-    fair-acts {h = h} m f (leaves {me = me} {room = room} {r = r} x o b) v =
-        fair-leave me x (none-due w me r room f not-last) o (f .not-after me r room o refl)
+    fair-acts {h = h} m f (leaves {me = me} {room = room} {r = r} x o c b) v =
+        fair-leave me x (none-due w me r room f not-last) o
+        (f .not-after me o (renewed (report me r room) (renet g me x) v me o (λ z. c (sym (renet-net g me x) ∙ z))))
       where
         not-last : OfA A me → last me ≡ w .clock → ⊥
         not-last q l =
             let a : x ≡ A = sym (renet-net g me x) ∙ net-after (report me r room) (renet g me x) f v me o l in
             true-false _ (ap (λ (y : ℕ). serves y me) a ∙ o .1) b
-    fair-acts {h = h} m f (reports {me = me} {room = room} {r = r} x p o k t) v =
+    fair-acts {h = h} m f (reports {me = me} {room = room} {r = r} x p o c k t) v =
+        let is-x : h .net me ≡ x = ap (λ (y : ℕ → ℕ). y me) (tests-net t ∙ propose-net (renet g me x) me Fast p (w .clock)) ∙ renet-net g me x in
         fair-report me x p (record {
           at-office = o;
-          open-yet = f .not-after me r room o refl;
+          open-yet = f .not-after me o (renewed (report me r room) h v me o (λ z. c (sym is-x ∙ z)));
           makes = k;
-          is-A = λ l. sym (ap (λ (y : ℕ → ℕ). y me) (tests-net t ∙ propose-net (renet g me x) me Fast p (w .clock)) ∙ renet-net g me x) ∙ net-after (report me r room) h f v me o l;
+          is-A = λ l. sym is-x ∙ net-after (report me r room) h f v me o l;
           no-other = due-at-report w me r room f;
         }) t
     fair-acts m f (stores {i = i} {me = me} {room = room} p l a d) v =

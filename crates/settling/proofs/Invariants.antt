@@ -1,4 +1,5 @@
--- What the last reports add to the invariants of the runs. Before event t the last report of office i has come where last i < t.
+-- What the last reports, those that change a net view for the last time, add to the invariants of the runs. Before event t the last report of
+-- office i has come where last i < t.
 use mathlib.Core.Path.{_≡_}
 use mathlib.Core.Bool.{false}
 use mathlib.Core.Logic.{_⊎_}

@@ -7,6 +7,7 @@ pub mod Quiet
 pub mod Count
 pub mod Joined
 pub mod Bound
+pub mod Changes
 pub mod Fair
 pub mod OnWay
 pub mod Settling

@@ -5,7 +5,7 @@ use mathlib.Core.List.{[], _∷_}
 use Rattle.rules.specs.State.{zeros}
 use Rattle.runs.specs.World.{report, delivery, loss}
 use Rattle.settling.specs.Scenarios.{Scenario, starts-fresh, no-mail, others-pass, net-is-A, full-room, no-ceiling, none-lost}
-use Rattle.settling.specs.Scenarios.{summary, no-view, sent-at, join, hand, inNone, three}
+use Rattle.settling.specs.Scenarios.{fails, failsByReport, summary, no-view, sent-at, join, hand, inNone, three}
 
 -- none-lost: office 0's only proposal is lost after its last report. Office 0 sends view 2, office 1 none.
 abbrev lost-after : Scenario
@@ -26,6 +26,31 @@ lost-after-summary :
     }
 unfolding summary
 lost-after-summary = refl
+
+-- The same loss, and then a repeat: where the last report in the list counted, also one that changes nothing, no hypothesis would fail.
+abbrev lost-before-repeat : Scenario
+lost-before-repeat =
+    record { set = 17; begun = []; posted = []; events = join 0 17 ∷ join 1 17 ∷ loss 0 1 0 ∷ join 0 17 ∷ hand 1 0 ∷ [] }
+
+lost-before-repeat-summary :
+    summary lost-before-repeat
+    ≡ record {
+      fails = none-lost ∷ [];
+      point = 2;
+      on-way = 2;
+      offices = 2;
+      bound = 10;
+      delivered = 1;
+      answers = 0 ∷ 0 ∷ 0 ∷ 0 ∷ [];
+      left = 0;
+      views = sent-at 4 2 17 (three 1 1 0) ∷ no-view ∷ no-view ∷ [];
+    }
+unfolding summary
+lost-before-repeat-summary = refl
+
+lost-before-repeat-by-report : failsByReport lost-before-repeat ≡ []
+unfolding summary
+lost-before-repeat-by-report = refl
 
 -- net-is-A: office 1's last report leaves it with {4} alone, so that it sends a view of its own seat at once. Office 0 waits.
 abbrev net-differs : Scenario
@@ -66,6 +91,20 @@ no-room-summary :
     }
 unfolding summary
 no-room-summary = refl
+
+-- A repeat that is answered 3 breaks full room too, though the offices settle here.
+abbrev repeat-without-room : Scenario
+repeat-without-room =
+    record {
+      set = 17;
+      begun = [];
+      posted = [];
+      events = join 0 17 ∷ join 1 17 ∷ report 0 (record { joining = record { bits = 17 }; leaving = record { bits = 0 } }) 181 ∷ hand 0 1 ∷ hand 1 0 ∷ [];
+    }
+
+repeat-without-room-fails : fails repeat-without-room ≡ full-room ∷ []
+unfolding summary
+repeat-without-room-fails = refl
 
 -- no-ceiling: offices 0 and 1 send view 2. Office 0 then agrees with office 2 on {0, 8}, in a slow round of number L - 1 (event 5: view 3),
 -- and goes back to {0, 4}: its fast proposal has number L. Office 1 in mode none would make number L + 1, and answers 13.

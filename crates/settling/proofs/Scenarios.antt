@@ -1,22 +1,26 @@
 -- A scenario that fails no test meets the hypotheses of the settling rule.
-use mathlib.Core.Path.{_≡_, refl, ap, _∙_}
+use mathlib.Core.Path.{_≡_, refl, ap, subst, _∙_}
 use mathlib.Core.Bool.{Bool, true, false, _&&_, _||_, not, false≢true}
 use mathlib.Core.List.{List, [], _∷_}
-use Prim.Native.Nat.{ℕ, zero, suc, _+_, _^_, _<_}
+use Prim.Native.Nat.{ℕ, zero, suc, _+_, _-_, _^_, _<_}
 use native.Mathlib.Omega.{arith}
-use lib.ListN.{length, getD}
+use native.Mathlib.Numerals.{add-one}
+use lib.ListN.{length, take, getD, List·getD-map}
 use lib.Dec.{eqb, ltb}
-use borrow.Author.Tests.{ltb-true, eqb-true, eqb-false, eq-eqb, not-true}
+use borrow.Author.Tests.{ltb-true, eqb-true, eqb-false, not-true}
 use Rattle.laws.specs.Lists.{Every, none, more, runs}
 use Rattle.laws.proofs.Fin.{allb-out, and-iff}
+use Rattle.laws.specs.Tab.{tab}
+use Rattle.laws.proofs.Tab.{getD-tab}
 use Rattle.laws.specs.Upd.{ifb}
 use Rattle.offices.specs.Offices.{serves}
-use Rattle.records.specs.declared.Report.{Report}
 use Rattle.rules.specs.Rules.{fresh}
 use Rattle.rules.specs.Refusals.{Result, wellFormed}
-use Rattle.runs.specs.World.{netBy, Item, World, WorldEvent, report, delivery, loss, next, at, Nth, Gives, to-report, to-proposal, Among}
-use Rattle.settling.specs.Statement.{OfA, Assumed, AllReported}
-use Rattle.settling.specs.Scenarios.{Scenario, NotFresh, Posted, stateIn, linkIn, opening, everywhere, amongb, answersNot, olderAt, losesOld, reportsTo, noneTo, lastTo}
+use Rattle.runs.specs.World.{netOne, netBy, Item, World, WorldEvent, report, delivery, loss, next, at, Nth, Gives, to-report, to-proposal, Among}
+use Rattle.settling.specs.Statement.{OfA, LastChange, Assumed, AllReported}
+use Rattle.settling.proofs.Changes.{changes-at}
+use Rattle.settling.specs.Scenarios.{Scenario, NotFresh, Posted, stateIn, linkIn, opening, everywhere, amongb, answersNot, olderAt, losesOld}
+use Rattle.settling.specs.Scenarios.{Followed, notYet, follow, followed, points, changeAt}
 use Rattle.settling.specs.Scenarios.{allFresh, noMail, passes, ofEach, Hypothesis, some-seat, holds, hypotheses, failing, fails, reportedLast}
 
 not-or : (a b : Bool) → a ≡ true → not a || b ≡ true → b ≡ true
@@ -64,60 +68,78 @@ older t n [] h y lt e = absurd (omega arith)
 older t zero (z ∷ l) h y lt e = rw (← e) (ltb-true (z .sent) t h)
 older t (suc n) (z ∷ l) h y lt e = older t n l h y (omega arith) e
 
--- the reports to an office
-abbrev ReportAt : List WorldEvent → ℕ → ℕ → Type 0
-ReportAt es n i = (r : Report) × (room : ℕ) × Nth es n (report i r room)
+-- The pass over the events, as one office sees it.
+module _ (i : ℕ) where
+  followOn : World → List WorldEvent → ℕ → Followed → Followed
+  followOn w [] n c = c
+  followOn w (e ∷ es) n c = followOn (next w e) es (n + 1) (follow w e n i c)
 
-none-to : (i : ℕ) (es : List WorldEvent) → noneTo i es ≡ true → (n : ℕ) → ReportAt es n i → ⊥
-none-to i [] h n x = let q = x .2 .0 in omega arith
-none-to i (e ∷ es) h zero x =
-    let a = and-iff (not (reportsTo i e)) (noneTo i es) .0 h in
-    let b : reportsTo i e ≡ true = ap (reportsTo i) (x .2 .1) ∙ eq-eqb i i refl in
-    let c = not-true (reportsTo i e) (a .0) in
-    let z : _≡_ {A = ℕ} 0 1 = cc in
-    omega arith
-none-to i (e ∷ es) h (suc n) x =
-    let a = and-iff (not (reportsTo i e)) (noneTo i es) .0 h in
-    let q = x .2 .0 in
-    none-to i es (a .1) n (x .0, x .1, (omega arith, x .2 .1))
+  in-pass : i < 16 → (w : World) (es : List WorldEvent) (n : ℕ) (cs : List Followed) → getD (followed w es n cs) i notYet ≡ followOn w es n (getD cs i notYet)
+  unfolding followed followOn
+  in-pass lt w [] n cs = refl
+  in-pass lt w (e ∷ es) n cs =
+      in-pass lt (next w e) es (n + 1) (tab 16 (λ k. follow w e n k (getD cs k notYet)))
+      ∙ ap (followOn (next w e) es (n + 1)) (getD-tab 16 (λ k. follow w e n k (getD cs k notYet)) i notYet lt)
 
-is-report : (i : ℕ) (e : WorldEvent) → reportsTo i e ≡ true → (r : Report) × (room : ℕ) × (e ≡ report i r room)
-is-report i (report o r room) h = (r, room, rw (eqb-true o i h))
-is-report i (delivery a b room) h = absurd (false≢true h)
-is-report i (loss a b place) h = absurd (false≢true h)
+  -- event k of the list changes the net view, which is x at first
+  abbrev Moves : World → List WorldEvent → ℕ → ℕ → Type 0
+  Moves w es x k = netBy w (take (suc k) es) i x ≡ netBy w (take k es) i x → ⊥
 
-last-to : (i : ℕ) (es : List WorldEvent) → not (noneTo i es) ≡ true
-    → ReportAt es (lastTo es i) i × ((m : ℕ) → lastTo es i < m → ReportAt es m i → ⊥)
-last-to i [] h = absurd (false≢true h)
-last-to i (e ∷ es) h = go (noneTo i es) refl (last-to i es)
+  -- where the pass ends: nothing has changed it, or event k was the last to do so
+  data Ended (w : World) (es : List WorldEvent) (n : ℕ) (c d : Followed) : Type 0 where
+    unchanged : d .point ≡ c .point → ((k : ℕ) → k < length es → Moves w es (c .net) k → ⊥) → Ended w es n c d
+    changed : (k : ℕ) → k < length es → d .point ≡ n + k + 1 → Moves w es (c .net) k
+        → ((m : ℕ) → m < length es → k < m → Moves w es (c .net) m → ⊥) → Ended w es n c d
+
+  ended : (w : World) (es : List WorldEvent) (n : ℕ) (c : Followed) → Ended w es n c (followOn w es n c)
+  unfolding followOn netBy
+  ended w [] n c = unchanged refl (λ k lt. absurd (omega arith))
+  ended w (e ∷ es) n c = go (ended (next w e) es (n + 1) (follow w e n i c))
+    where
+      x : ℕ
+      x = netOne w e i (c .net)
+
+      d : Followed
+      d = followOn (next w e) es (n + 1) (follow w e n i c)
+
+      later : (P : ℕ → Type 0) → P 0 → ((k : ℕ) → k < length es → P (suc k)) → (k : ℕ) → k < suc (length es) → P k
+      later P z f zero lt = z
+      later P z f (suc k) lt = f k (omega arith)
+
+      go : Ended (next w e) es (n + 1) (follow w e n i c) d → Ended w (e ∷ es) n c d
+      go (changed k lt p m h) = changed (suc k) (omega arith) (omega arith) m
+          (later (λ j. suc k < j → Moves w (e ∷ es) (c .net) j → ⊥) (λ l. absurd (omega arith)) (λ j l q. h j l (omega arith)))
+      go (unchanged p h) = split (eqb x (c .net)) refl
+        where
+          split : (t : Bool) → eqb x (c .net) ≡ t → Ended w (e ∷ es) n c d
+          split true t = unchanged (p ∙ rw t) (later (λ j. Moves w (e ∷ es) (c .net) j → ⊥) (λ m. m (eqb-true x (c .net) t)) h)
+          split false t = changed 0 (omega arith) (p ∙ rw t (omega arith)) (eqb-false x (c .net) t)
+              (later (λ j. 0 < j → Moves w (e ∷ es) (c .net) j → ⊥) (λ l. absurd (omega arith)) (λ j l q. h j l))
+
+-- so it finds the last report of every office
+pub last-found : (p : Scenario) (i : ℕ) → i < 16 → changeAt p .has i ≡ true
+    → LastChange (p .set) (stateIn (p .begun)) (linkIn (p .posted)) (p .events) i (changeAt p .place i)
+unfolding changeAt points
+last-found p i lt h = go (ended i (opening p) es 0 notYet)
   where
+    es : List WorldEvent
+    es = p .events
+
+    -- the point of the office
+    at-end : getD (points p) i 0 ≡ followOn i (opening p) es 0 notYet .point
+    at-end = List·getD-map (λ (c : Followed). c .point) (followed (opening p) es 0 (tab 16 (λ k. notYet))) i notYet
+        ∙ ap (λ (c : Followed). c .point) (in-pass i lt (opening p) es 0 (tab 16 (λ k. notYet))
+        ∙ ap (followOn i (opening p) es 0) (getD-tab 16 (λ k. notYet) i notYet lt))
+
     Last : ℕ → Type 0
-    Last n = ReportAt (e ∷ es) n i × ((m : ℕ) → n < m → ReportAt (e ∷ es) m i → ⊥)
+    Last = LastChange (p .set) (stateIn (p .begun)) (linkIn (p .posted)) es i
 
-    here : noneTo i es ≡ true → (r : Report) × (room : ℕ) × (e ≡ report i r room) → Last 0
-    here t x = ((x .0, x .1, (omega arith, x .2)), after)
-      where
-        after : (m : ℕ) → 0 < m → ReportAt (e ∷ es) m i → ⊥
-        after zero lt y = omega arith
-        after (suc m) lt y = let q = y .2 .0 in none-to i es t m (y .0, y .1, (omega arith, y .2 .1))
-
-    later : (n : ℕ) → ReportAt es n i × ((m : ℕ) → n < m → ReportAt es m i → ⊥) → Last (suc n)
-    later n x = let q = x .0 .2 .0 in ((x .0 .0, x .0 .1, (omega arith, x .0 .2 .1)), after)
-      where
-        after : (m : ℕ) → suc n < m → ReportAt (e ∷ es) m i → ⊥
-        after zero lt y = omega arith
-        after (suc m) lt y = let q = y .2 .0 in x .1 m (omega arith) (y .0, y .1, (omega arith, y .2 .1))
-
-    only : (a b : Bool) → b ≡ true → not (not a && b) ≡ true → a ≡ true
-    only true b t u = refl
-    only false true t u = u
-    only false false t u = t
-
-    go : (t : Bool) → noneTo i es ≡ t
-        → (not (noneTo i es) ≡ true → ReportAt es (lastTo es i) i × ((m : ℕ) → lastTo es i < m → ReportAt es m i → ⊥))
-        → Last (ifb (noneTo i es) 0 (suc (lastTo es i)))
-    go true t ih = rw t (here t (is-report i e (only (reportsTo i e) (noneTo i es) t h)))
-    go false t ih = rw t (later (lastTo es i) (ih (rw t)))
+    go : Ended i (opening p) es 0 notYet (followOn i (opening p) es 0 notYet) → Last (getD (points p) i 0 - 1)
+    go (unchanged q n) = let a = ltb-true 0 (getD (points p) i 0) h in let b = at-end in absurd (omega arith)
+    go (changed k l q m n) =
+        let b = at-end in
+        let e : k ≡ getD (points p) i 0 - 1 = omega arith in
+        subst Last e (changes-at (p .set) (stateIn (p .begun)) (linkIn (p .posted)) es k i l (rw add-one m), λ j a x. n j (x .0 .2 .0) a (rw add-one at (x .1)))
 
 -- the offices and links at first
 module _ (x i : ℕ) (s : serves x i ≡ true) where
@@ -165,9 +187,9 @@ none-failing t (x ∷ xs) e n lt = go (t x) refl n lt (none-failing t xs)
 
 -- a scenario that fails none meets-all the hypotheses of the rule
 module _ (p : Scenario) (e : fails p ≡ []) where
-  test : (n : ℕ) → ltb n 11 ≡ true → holds p (getD hypotheses n some-seat) ≡ true
+  test : (n : ℕ) → ltb n 11 ≡ true → holds p (changeAt p) (getD hypotheses n some-seat) ≡ true
   unfolding fails
-  test n lt = none-failing (holds p) hypotheses e n (ltb-true n 11 lt)
+  test n lt = none-failing (holds p (changeAt p)) hypotheses e n (ltb-true n 11 lt)
 
   abbrev A : ℕ
   A = p .set
@@ -177,6 +199,9 @@ module _ (p : Scenario) (e : fails p ≡ []) where
 
   abbrev w : World
   w = opening p
+
+  abbrev last : ℕ → ℕ
+  last = changeAt p .place
 
   abbrev Of : ℕ → Type 0
   Of = OfA A
@@ -190,13 +215,13 @@ module _ (p : Scenario) (e : fails p ≡ []) where
       go true q u = absurd (h (lt, q))
       go false q u = let b = and-iff (eqb (stateIn (p .begun) o .own) o) _ .0 u in (eqb-true _ o (b .0), b .1)
 
-  kept : (n i j place : ℕ) → Of i → Of j → Nth es n (loss i j place) → olderAt (lastTo es i) place (at w es n .link i j) ≡ true
+  kept : (n i j place : ℕ) → Of i → Of j → Nth es n (loss i j place) → olderAt (last i) place (at w es n .link i j) ≡ true
   unfolding holds
   kept n i j place a b x =
-      let t = everywhere-out (losesOld A (lastTo es)) w es (test 10 refl) n (loss i j place) x in
+      let t = everywhere-out (losesOld A last) w es (test 10 refl) n (loss i j place) x in
       not-or (serves A j) _ (b .1) (not-or (serves A i) _ (a .1) t)
 
-  pub meets-all : Assumed A (stateIn (p .begun)) (linkIn (p .posted)) es (lastTo es)
+  pub meets-all : Assumed A (stateIn (p .begun)) (linkIn (p .posted)) es last
   unfolding holds
   meets-all =
       let s = and-iff (ltb 0 A) (ltb A (2 ^ 64)) .0 (test 0 refl) in
@@ -207,20 +232,20 @@ module _ (p : Scenario) (e : fails p ≡ []) where
         others-pass = passing;
         others-mail = λ o j lt h. mail-from o j (p .posted);
         among = λ n e x. is-among (at w es n) e (everywhere-out amongb w es (test 5 refl) n e x);
-        has-last = λ i o. last-to i es (of-each A (λ i. not (noneTo i es)) (test 6 refl) i (o .0) (o .1));
+        has-last = λ i o. last-found p i (o .0) (of-each A (changeAt p .has) (test 6 refl) i (o .0) (o .1));
         net-is-A = λ i o. eqb-true _ A (of-each A (λ i. eqb (netBy w es i 0) A) (test 7 refl) i (o .0) (o .1));
         full-room = λ n i r e o x. never A 3 (at w es n) e (everywhere-out (answersNot A 3) w es (test 8 refl) n e x) i r (o .1);
         no-ceiling = λ n i r e o x. never A 13 (at w es n) e (everywhere-out (answersNot A 13) w es (test 9 refl) n e x) i r (o .1);
-        none-lost = λ n i j place y a b x. older (lastTo es i) place (at w es n .link i j) (kept n i j place a b x) y;
+        none-lost = λ n i j place y a b x. older (last i) place (at w es n .link i j) (kept n i j place a b x) y;
       }
 
 pub reported : (p : Scenario) (i : ℕ) → reportedLast p i ≡ true
-    → AllReported (p .set) (stateIn (p .begun)) (linkIn (p .posted)) (p .events) (lastTo (p .events)) (lastTo (p .events) i + 1)
+    → AllReported (p .set) (stateIn (p .begun)) (linkIn (p .posted)) (p .events) (changeAt p .place) (changeAt p .place i + 1)
 unfolding reportedLast
 reported p i h =
     let a = and-iff (ltb i 16) _ .0 h in
     let b = and-iff (serves (p .set) i) _ .0 (a .1) in
-    let t : ℕ → Bool = λ j. ltb (lastTo (p .events) j) (lastTo (p .events) i + 1) in
+    let t : ℕ → Bool = λ j. ltb (changeAt p .place j) (changeAt p .place i + 1) in
     record {
       after = λ j o. ltb-true _ _ (of-each (p .set) t (b .1) j (o .0) (o .1));
       at-once = (i, (ltb-true i 16 (a .0), b .0), refl);

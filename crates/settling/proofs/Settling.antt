@@ -1,13 +1,11 @@
 -- The settling rule, proved: `settles` is the statement of Statement.antt.
 use mathlib.Core.Path.{_≡_, refl, sym, ap, subst, _∙_}
-use mathlib.Core.Bool.{Bool, true, false}
 use mathlib.Core.List.{List, [], _∷_}
 use Prim.Native.Nat.{ℕ, _+_, _-_, _*_, _≤_, _<_}
 use native.Mathlib.Omega.{arith}
+use native.Mathlib.Decide.{decLt}
 use lib.ListN.{length, drop}
 use lib.Seq.{drop-length}
-use lib.Dec.{ltb}
-use borrow.Author.Tests.{ltb-true, ltb-false}
 use Rattle.laws.specs.Lists.{Every}
 use Rattle.laws.proofs.Lists.{every-head}
 use Rattle.offices.specs.Offices.{serves, countOf}
@@ -17,7 +15,7 @@ use Rattle.records.specs.declared.View.{View}
 use Rattle.rules.specs.State.{State}
 use Rattle.rules.specs.Refusals.{Result}
 use Rattle.rule_laws.proofs.Steps.{Passes}
-use Rattle.runs.specs.World.{Item, World, atFirst, WorldEvent, report, delivery, at, Nth, Gives, to-report, to-proposal}
+use Rattle.runs.specs.World.{Item, World, atFirst, WorldEvent, report, delivery, next, at, Nth, Gives, to-report, to-proposal}
 use Rattle.runs.specs.Begins.{Begins}
 use Rattle.runs.proofs.Arrays.{Offices, Numbers, Happens, viewWith}
 use Rattle.runs.proofs.Accepting.{unheard}
@@ -25,13 +23,14 @@ use Rattle.runs.proofs.WorldArrays.{SeenAll, below-sixteen}
 use Rattle.runs.proofs.Start.{atStart, start-numbers}
 use Rattle.runs.proofs.Places.{nth-same, at-next, drop-next, clock-first, along}
 use Rattle.runs.proofs.Runs.{Shown, shown-along, shown-at}
-use Rattle.settling.specs.Statement.{onWay, deliveryOne, deliveries, OfA, Assumed, AllReported, Settled, Settles}
+use Rattle.settling.specs.Statement.{onWay, deliveryOne, deliveries, OfA, netAt, Changes, Assumed, AllReported, Settled, Settles}
 use Rattle.settling.proofs.Invariants.{Done, Inv, HappensFairly}
 use Rattle.settling.proofs.AfterTests.{inv-acts}
 use Rattle.settling.proofs.Quiet.{quiet-view}
 use Rattle.settling.proofs.Bound.{Goes, at-first, acted, deliveries-bound}
-use Rattle.settling.proofs.Fair.{Fair, fair-acts}
-use Rattle.runs.proofs.NetView.{net-kept, net-at-end}
+use Rattle.settling.proofs.Changes.{stays-after, net-at-end}
+use Rattle.settling.proofs.Fair.{Renewed, Fair, fair-acts}
+use Rattle.runs.proofs.NetView.{unchanged-silent, net-at}
 use Rattle.settling.proofs.OnWay.{Empty, none-on-way, same-way, quiet-acts}
 
 -- before the first event no last report has come
@@ -85,16 +84,27 @@ module _ (A : ℕ) (states : ℕ → State) (links : ℕ → ℕ → List Item) 
   clock-is : (n : ℕ) → n ≤ length es → world n .clock ≡ n
   clock-is = clock-first states links es
 
-  -- after its last report an office of A has A as its net view, for so it is at the end
-  net-from : (n i : ℕ) → n ≤ length es → OfA A i → last i < n → world n .state i .net .bits ≡ A
+  abbrev net : ℕ → ℕ → ℕ
+  net = netAt A states links es
+
+  -- the net view of an office of A before event n and after it, as its reports make it
+  net-is : (n i : ℕ) → OfA A i → world n .state i .net .bits ≡ net i n
+  net-is n i q = net-at states links es i (known .among) (known .starts-fresh i q) n
+
+  net-left : (n i : ℕ) (e : WorldEvent) → OfA A i → Nth es n e → next (world n) e .state i .net .bits ≡ net i (n + 1)
+  net-left n i e q h = ap (λ (w : World). w .state i .net .bits) (sym (at-next start es n e h)) ∙ net-is (n + 1) i q
+
+  -- after its last report no event changes it
+  kept-after : (n i : ℕ) (e : WorldEvent) → OfA A i → Nth es n e → last i < n → next (world n) e .state i .net .bits ≡ world n .state i .net .bits
+  kept-after n i e q h lt =
+      net-left n i e q h ∙ stays-after A states links es (last i) i (known .has-last i q) n lt (h .0) ∙ sym (net-is n i q)
+
+  -- so it is A, for so it is at the end
+  net-from : (n i : ℕ) → n ≤ length es → OfA A i → last i < n → net i n ≡ A
   net-from n i le q lt =
-      along (λ k. world n .state i .net .bits ≡ world k .state i .net .bits) es n (length es) le (omega arith) refl
-      (λ k e h x y. y ∙ sym (net-kept (world k) e i (known .among k e x) (no-report k h e x))
-      ∙ ap (λ (w : World). w .state i .net .bits) (sym (at-next start es k e x)))
-      ∙ net-at-end states links es i (known .among) (known .starts-fresh i q) ∙ known .net-is-A i q
-    where
-      no-report : (k : ℕ) → n ≤ k → (e : WorldEvent) → Nth es k e → (r : Report) (room : ℕ) → e ≡ report i r room → ⊥
-      no-report k h e x r room z = known .has-last i q .1 k (omega arith) (r, room, subst (Nth es k) z x)
+      along (λ k. net i n ≡ net i k) es n (length es) le (omega arith) refl
+      (λ k e h x y. y ∙ sym (stays-after A states links es (last i) i (known .has-last i q) k (omega arith) (x .0)))
+      ∙ net-at-end A states links es i ∙ known .net-is-A i q
 
   -- what is assumed of each event
   fair : (n : ℕ) (e : WorldEvent) → Nth es n e → Fair A last (world n) e
@@ -104,23 +114,23 @@ module _ (A : ℕ) (states : ℕ → State) (links : ℕ → ℕ → List Item) 
       record {
         answers = λ i r q g. (known .full-room n i r e q h g, known .no-ceiling n i r e q h g);
         keeps = λ i j place x a b k. known .none-lost n i j place x a b (subst (Nth es n) k h);
-        not-after = λ i r room q k. not-later i r room q c (subst (Nth es n) k h);
+        not-after = λ i q. not-later i q c;
         is-last = λ i q k. the-report i q (k ∙ c);
-        final = λ i q k.
-            ap (λ (w : World). w .state i .net .bits) (sym (at-next start es n e h)) ∙ net-from (n + 1) i (omega arith) q (omega arith);
+        final = λ i q k. net-left n i e q h ∙ net-from (n + 1) i (omega arith) q (omega arith);
       }
     where
-      not-later : (i : ℕ) (r : Report) (room : ℕ) → OfA A i → world n .clock ≡ n → Nth es n (report i r room) → world n .clock ≤ last i
-      not-later i r room q c k = go (ltb (last i) n) refl
+      not-later : (i : ℕ) → OfA A i → world n .clock ≡ n → Renewed (world n) e i → world n .clock ≤ last i
+      not-later i q c d = go (decLt (last i) n)
         where
-          go : (t : Bool) → ltb (last i) n ≡ t → world n .clock ≤ last i
-          go true b = absurd (known .has-last i q .1 n (ltb-true (last i) n b) (r, room, k))
-          go false b = let a = ltb-false (last i) n b in omega arith
+          go : Dec (last i < n) → world n .clock ≤ last i
+          go (yes b) = absurd (d (kept-after n i e q h b))
+          go (no b) = omega arith
 
-      the-report : (i : ℕ) → OfA A i → last i ≡ n → (r : Report) × (room : ℕ) × (e ≡ report i r room)
+      the-report : (i : ℕ) → OfA A i → last i ≡ n → (r : Report) × (room : ℕ) × (e ≡ report i r room) × Renewed (world n) e i
       the-report i q k =
-          let r = known .has-last i q .0 in
-          (r .0, r .1, nth-same es n e (report i (r .0) (r .1)) h (subst (λ (m : ℕ). Nth es m (report i (r .0) (r .1))) k (r .2)))
+          let x = subst (λ (m : ℕ). Changes A states links es m i) k (known .has-last i q .0) in
+          let r = x .0 in
+          (r .0, r .1, nth-same es n e (report i (r .0) (r .1)) h (r .2), λ z. x .1 (sym (net-left n i e q h) ∙ z ∙ net-is n i q))
 
   -- event n, where arrays g show the world before it
   step-acts : (n : ℕ) (e : WorldEvent) → Nth es n e → (g h : Offices) → SeenAll (serves A) (world n) g → Happens (serves A) (world n) e g h
@@ -163,7 +173,7 @@ module _ (A : ℕ) (states : ℕ → State) (links : ℕ → ℕ → List Item) 
   all-done n h i q = let a = after .after i q in omega arith
 
   T-in : T ≤ length es
-  T-in = let j = after .at-once in let r = known .has-last (j .0) (j .1) .0 .2 .0 in let e = j .2 in omega arith
+  T-in = let j = after .at-once in let r = known .has-last (j .0) (j .1) .0 .0 .2 .0 in let e = j .2 in omega arith
 
   -- the proposals on their way at T, and the deliveries from a place on
   abbrev P : ℕ
@@ -222,10 +232,8 @@ module _ (A : ℕ) (states : ℕ → State) (links : ℕ → ℕ → List Item) 
   -- what a quiet office of A answers: it writes nothing
   silent : (n : ℕ) → T ≤ n → Quiet n → (e : WorldEvent) → Nth es n e → (i : ℕ) (r : Result) → OfA A i → Gives (w-at n) e i r → r .written ≡ []
   silent n h q e k i r p (to-report o rep room) =
-      let c : w-at n .clock ≡ n = let l = k .0 in clock-is A states links es last known n (omega arith) in
-      let a = fair A states links es last known n (report o rep room) k .not-after o rep room p refl in
-      let b = after .after o p in
-      absurd (omega arith)
+      unchanged-silent (w-at n) o room rep (known .among n (report o rep room) k)
+      (kept-after A states links es last known n o (report o rep room) p k (all-done n h o p))
   silent n h q e k j r p (to-proposal i o room x l front) = unheard (w-at n) o room (x .proposal) not-of-A
     where
       m : (i < 16) × (o < 16) × (i ≡ o → ⊥)

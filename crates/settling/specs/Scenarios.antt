@@ -2,9 +2,9 @@
 -- of tests that compute (proofs/Scenarios.antt turns them into the rule's own hypotheses); what it shows is one record of numbers, to be
 -- compared with numbers written by hand.
 use mathlib.Core.Bool.{Bool, true, false, _&&_, _||_, not}
-use mathlib.Core.List.{List, [], _∷_, _++_}
+use mathlib.Core.List.{List, [], _∷_, _++_, map}
 use Prim.Native.Nat.{ℕ, zero, suc, _+_, _-_, _*_, _^_}
-use lib.ListN.{drop}
+use lib.ListN.{getD, drop}
 use lib.Dec.{eqb, ltb}
 use Rattle.laws.specs.Bit.{bit}
 use Rattle.laws.specs.Big.{bytesAll}
@@ -17,13 +17,13 @@ use Rattle.offices.specs.Offices.{serves, countOf}
 use Rattle.records.specs.Layout.{encodeReport, decodeReport, encodeProposal, decodeProposal, markOf, formFor, formOf, checkFor, checkOf}
 use Rattle.records.specs.declared.Proposal.{Proposal}
 use Rattle.rules.specs.State.{None, State, zeros, nothing}
-use Rattle.rules.specs.Rules.{andThen, fresh, netAfter, withNet, seated, opened, noticeOf, opens, nextNumber, ownProposal, proposed, receives}
+use Rattle.rules.specs.Rules.{andThen, fresh, netAfter, withNet, repeats, seated, opened, noticeOf, opens, nextNumber, ownProposal, proposed, receives}
 use Rattle.rules.specs.Rules.{proposesFast, received, matching, matchingSlow, aboveOwn, usesOwn, slowCalled, joinedNumber, slowNumber}
-use Rattle.rules.specs.Rules.{proposesSlow, slowTest, agreesKind, isNone, agreed, startOf, viewOf, concluded, agreementTest, tests, reportRule}
+use Rattle.rules.specs.Rules.{proposesSlow, slowTest, agreesKind, isNone, agreed, startOf, viewOf, concluded, agreementTest, tests, changeRule, reportRule}
 use Rattle.rules.specs.Rules.{proposalRule}
 use Rattle.rules.specs.Refusals.{slotWithin, wellFormed, unreadable, eventOf, wrongSender, wrongKind, wrongNumber, withoutSeat, strayUsed}
 use Rattle.rules.specs.Refusals.{notAbove, usedAhead, proposalChecks, accepting, actOf, stepOf}
-use Rattle.runs.specs.World.{netBy, Item, SentView, viewsIn, World, atFirst, WorldEvent, report, delivery, loss, answered, withLink, idle, reportAnswer, proposalAnswer, next, run, at}
+use Rattle.runs.specs.World.{netOne, netBy, Item, SentView, viewsIn, World, atFirst, WorldEvent, report, delivery, loss, answered, withLink, idle, reportAnswer, proposalAnswer, next, run, at}
 use Rattle.settling.specs.Statement.{onWay, deliveries}
 
 -- an office that does not start fresh, and a proposal that is on the link from its sender at first
@@ -93,10 +93,47 @@ abbrev pub noneTo : ℕ → List WorldEvent → Bool
 noneTo i [] = true
 noneTo i (e ∷ es) = not (reportsTo i e) && noneTo i es
 
--- the place of the last report to office i, where there is one
+-- the place of the last report to office i, whether it changes the net view or not, where there is one
 abbrev pub lastTo : List WorldEvent → ℕ → ℕ
 lastTo [] i = 0
 lastTo (e ∷ es) i = ifb (noneTo i es) 0 (suc (lastTo es i))
+
+-- Of an office, as the events go by: its net view, and the point just after the last report that changed it, 0 where none has.
+pub record Followed : Type 0 where
+  pub net : ℕ
+  pub point : ℕ
+
+abbrev pub notYet : Followed
+notYet = record { net = 0; point = 0 }
+
+-- event n
+abbrev pub follow : World → WorldEvent → ℕ → ℕ → Followed → Followed
+follow w e n i c =
+    let x = netOne w e i (c .net) in
+    record { net = x; point = ifb (eqb x (c .net)) (c .point) (n + 1) }
+
+-- all offices in one pass over the events, which begin with event n
+unfoldable pub followed : World → List WorldEvent → ℕ → List Followed → List Followed
+followed w [] n cs = cs
+followed w (e ∷ es) n cs = followed (next w e) es (n + 1) (tab 16 (λ i. follow w e n i (getD cs i notYet)))
+
+unfoldable pub points : Scenario → List ℕ
+points p = map (λ c. c .point) (followed (opening p) (p .events) 0 (tab 16 (λ i. notYet)))
+
+-- which reports are the offices' last ones: whether office i has one, and its place
+pub record Lasts : Type 0 where
+  pub has : ℕ → Bool
+  pub place : ℕ → ℕ
+
+-- the rule's: the last that changed the net view
+unfoldable pub changeAt : Scenario → Lasts
+changeAt p =
+    let ends = points p in
+    record { has = λ i. ltb 0 (getD ends i 0); place = λ i. getD ends i 0 - 1 }
+
+-- the last in the list
+unfoldable pub reportAt : Scenario → Lasts
+reportAt p = record { has = λ i. not (noneTo i (p .events)); place = lastTo (p .events) }
 
 abbrev pub allFresh : ℕ → List NotFresh → Bool
 allFresh x [] = true
@@ -117,19 +154,19 @@ ofEach x t = allb 16 (λ i. not (serves x i) || t i)
 pub data Hypothesis : Type 0 where
   some-seat starts-fresh no-mail others-pass others-mail among has-last net-is-A full-room no-ceiling none-lost : Hypothesis
 
-unfoldable pub holds : Scenario → Hypothesis → Bool
-holds p some-seat = ltb 0 (p .set) && ltb (p .set) (2 ^ 64)
-holds p starts-fresh = allFresh (p .set) (p .begun)
-holds p no-mail = noMail (p .set) (p .posted)
-holds p others-pass = allb 16 (λ o. serves (p .set) o || passes o (stateIn (p .begun) o))
+unfoldable pub holds : Scenario → Lasts → Hypothesis → Bool
+holds p l some-seat = ltb 0 (p .set) && ltb (p .set) (2 ^ 64)
+holds p l starts-fresh = allFresh (p .set) (p .begun)
+holds p l no-mail = noMail (p .set) (p .posted)
+holds p l others-pass = allb 16 (λ o. serves (p .set) o || passes o (stateIn (p .begun) o))
 -- a posted proposal stands on its sender's own link
-holds p others-mail = true
-holds p among = everywhere amongb (opening p) (p .events)
-holds p has-last = ofEach (p .set) (λ i. not (noneTo i (p .events)))
-holds p net-is-A = ofEach (p .set) (λ i. eqb (netBy (opening p) (p .events) i 0) (p .set))
-holds p full-room = everywhere (answersNot (p .set) 3) (opening p) (p .events)
-holds p no-ceiling = everywhere (answersNot (p .set) 13) (opening p) (p .events)
-holds p none-lost = everywhere (losesOld (p .set) (lastTo (p .events))) (opening p) (p .events)
+holds p l others-mail = true
+holds p l among = everywhere amongb (opening p) (p .events)
+holds p l has-last = ofEach (p .set) (l .has)
+holds p l net-is-A = ofEach (p .set) (λ i. eqb (netBy (opening p) (p .events) i 0) (p .set))
+holds p l full-room = everywhere (answersNot (p .set) 3) (opening p) (p .events)
+holds p l no-ceiling = everywhere (answersNot (p .set) 13) (opening p) (p .events)
+holds p l none-lost = everywhere (losesOld (p .set) (l .place)) (opening p) (p .events)
 
 abbrev pub hypotheses : List Hypothesis
 hypotheses =
@@ -139,13 +176,16 @@ abbrev pub failing : (Hypothesis → Bool) → List Hypothesis → List Hypothes
 failing t [] = []
 failing t (x ∷ xs) = ifb (t x) [] (x ∷ []) ++ failing t xs
 
--- the hypotheses that a scenario fails
+-- the hypotheses that a scenario fails; the same where the last report in the list counts, also one that changes nothing
 unfoldable pub fails : Scenario → List Hypothesis
-fails p = failing (holds p) hypotheses
+fails p = failing (holds p (changeAt p)) hypotheses
 
--- office i of the set is the last that is reported to: the point of the rule is just after that
+unfoldable pub failsByReport : Scenario → List Hypothesis
+failsByReport p = failing (holds p (reportAt p)) hypotheses
+
+-- office i of the set has the latest of the last reports: the point of the rule is just after that
 unfoldable pub reportedLast : Scenario → ℕ → Bool
-reportedLast p i = ltb i 16 && (serves (p .set) i && ofEach (p .set) (λ j. ltb (lastTo (p .events) j) (lastTo (p .events) i + 1)))
+reportedLast p i = ltb i 16 && (serves (p .set) i && ofEach (p .set) (λ j. ltb (changeAt p .place j) (changeAt p .place i + 1)))
 
 -- the latest view that an office sent, with the event that sent it: the start numbers are of offices 0, 1, 2 and so on
 pub data Latest : Type 0 where
@@ -170,9 +210,9 @@ unfoldable pub answersTo : World → List WorldEvent → List ℕ
 answersTo w [] = []
 answersTo w (e ∷ es) = answer w e ++ answersTo (next w e) es
 
--- the point just after the last report to an office of the set
+-- the point just after the last report of an office of the set
 unfoldable pub pointOf : Scenario → ℕ
-pointOf p = 1 + largest 16 (λ i. ifb (serves (p .set) i) (lastTo (p .events) i) 0)
+pointOf p = largest 16 (λ i. ifb (serves (p .set) i) (getD (points p) i 0) 0)
 
 pub record Summary : Type 0 where
   -- the hypotheses of the rule that it fails
@@ -192,11 +232,11 @@ pub record Summary : Type 0 where
 -- who unfolds this unfolds the rules
 unfoldable pub summary : Scenario → Summary
 unfolding bit bytesAll allb anyb largest sum tab upd has serves unionOf withoutOf encodeReport decodeReport encodeProposal decodeProposal
-    markOf formFor formOf checkFor checkOf andThen fresh netAfter withNet seated opened noticeOf opens nextNumber ownProposal proposed receives proposesFast received
+    markOf formFor formOf checkFor checkOf andThen fresh netAfter withNet repeats seated opened noticeOf opens nextNumber ownProposal proposed receives proposesFast received
     matching matchingSlow aboveOwn usesOwn slowCalled joinedNumber slowNumber proposesSlow slowTest agreesKind isNone agreed startOf viewOf
-    concluded agreementTest tests reportRule proposalRule slotWithin wellFormed unreadable eventOf wrongSender wrongKind wrongNumber withoutSeat
+    concluded agreementTest tests changeRule reportRule proposalRule slotWithin wellFormed unreadable eventOf wrongSender wrongKind wrongNumber withoutSeat
     strayUsed notAbove usedAhead proposalChecks accepting actOf stepOf atFirst answered withLink idle reportAnswer proposalAnswer next runs netBy countOf deliveries
-    everywhere holds fails reportedLast answersTo pointOf
+    followed points changeAt reportAt everywhere holds fails failsByReport reportedLast answersTo pointOf
 summary p =
     let t = pointOf p in
     let w = at (opening p) (p .events) t in

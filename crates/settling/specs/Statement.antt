@@ -4,7 +4,7 @@ use mathlib.Core.Path.{_≡_}
 use mathlib.Core.Bool.{Bool, true, _&&_, not}
 use mathlib.Core.List.{List, [], _∷_}
 use Prim.Native.Nat.{ℕ, _+_, _-_, _*_, _^_, _≤_, _<_}
-use lib.ListN.{length, drop, getD}
+use lib.ListN.{length, take, drop, getD}
 use lib.Dec.{eqb, ltb}
 use Rattle.laws.specs.Lists.{Every}
 use Rattle.laws.specs.Fin.{sum}
@@ -44,14 +44,21 @@ module _ (A : ℕ) (states : ℕ → State) (links : ℕ → ℕ → List Item) 
   abbrev pub first : World
   first = atFirst states links
 
-  -- event n is a report to office i; it is the last one to it
+  -- the net view of office i before event n: what its accepted reports so far make of the empty set
+  abbrev pub netAt : ℕ → ℕ → ℕ
+  netAt i n = netBy first (take n es) i 0
+
+  -- event n is a report to office i; one that changes its net view, which is judged before the event and after it; the last of those
   abbrev pub ReportTo : ℕ → ℕ → Type 0
   ReportTo n i = (r : Report) × (room : ℕ) × Nth es n (report i r room)
 
-  abbrev pub LastReport : ℕ → ℕ → Type 0
-  LastReport i n = ReportTo n i × ((m : ℕ) → n < m → ReportTo m i → ⊥)
+  abbrev pub Changes : ℕ → ℕ → Type 0
+  Changes n i = ReportTo n i × (netAt i (n + 1) ≡ netAt i n → ⊥)
 
-  -- what is assumed; event last i is the last report to office i
+  abbrev pub LastChange : ℕ → ℕ → Type 0
+  LastChange i n = Changes n i × ((m : ℕ) → n < m → Changes m i → ⊥)
+
+  -- what is assumed; event last i is the last report that changes the net view of office i, its last report for short
   pub record Assumed (last : ℕ → ℕ) : Type 0 where
     -- A is a set of at least one seat
     pub some-seat : (0 < A) × (A < 2 ^ 64)
@@ -64,8 +71,8 @@ module _ (A : ℕ) (states : ℕ → State) (links : ℕ → ℕ → List Item) 
     pub others-mail : (o j : ℕ) → o < 16 → (OfA A o → ⊥) → Every (λ x. x .proposal .sender ≡ o) (links o j)
     -- the events are of the sixteen offices and their links
     pub among : (n : ℕ) (e : WorldEvent) → Nth es n e → Among e
-    -- each office of A has a last report, and A as its net view after it
-    pub has-last : (i : ℕ) → OfA A i → LastReport i (last i)
+    -- each office of A has a last report, and A as its net view at the end
+    pub has-last : (i : ℕ) → OfA A i → LastChange i (last i)
     pub net-is-A : (i : ℕ) → OfA A i → netBy first es i 0 ≡ A
     -- full output room and no ceiling: none of its events is answered 3 or 13
     pub full-room : (n i : ℕ) (r : Result) (e : WorldEvent) → OfA A i → Nth es n e → Gives (at first es n) e i r → r .refusal ≡ 3 → ⊥

@@ -1,25 +1,30 @@
 -- What a row holds after the step, and what the output holds.
-use mathlib.Core.Path.{_≡_, refl}
-use mathlib.Core.Bool.{false}
+use mathlib.Core.Path.{_≡_, refl, _∙_}
+use mathlib.Core.Bool.{true, false}
 use mathlib.Core.List.{List, []}
 use mathlib.Core.Logic.{_⊎_, inl, inr}
-use Prim.Native.Nat.{ℕ, _≤_}
+use Prim.Native.Nat.{ℕ, _≤_, _<_}
 use native.Mathlib.Omega.{arith}
 use lib.Dec.{eqb}
-use lib.ListN.{length, take, drop}
+use lib.ListN.{length, take, drop, getD}
 use borrow.Author.Tests.{ne-eqb}
 use Rattle.laws.proofs.Big.{sets-front, sets-rest}
 use Rattle.laws.proofs.Fin.{if-cases}
 use Rattle.laws.specs.Upd.{ifb}
-use Rattle.rules.specs.Refusals.{eventOf, fullRoom, stepOf, allBytes, size}
+use Rattle.records.specs.Layout.{checkOf}
+use Rattle.records.specs.declared.Report.{Report}
+use Rattle.rules.specs.Rules.{repeats}
+use Rattle.rules.specs.Refusals.{wellFormed, aReport, eventOf, fullRoom, stepOf, allBytes, size}
 use Rattle.rule_laws.proofs.Steps.{Refused, Accepts, step-cases, step-accepts}
+use Rattle.rule_laws.proofs.Repeats.{repeat-step}
 use Rattle.rule_laws.proofs.Sizes.{step-size}
 use Rattle.rule_laws.proofs.Exits.{no-bytes, room-enough}
 use Rattle.rule_laws.proofs.Shapes.{event-shaped, read-sixteen}
-use Rattle.row.specs.Row.{Row, stateOf, wordsOf, isRow}
+use Rattle.row.specs.Row.{Row, stateOf, wordsOf, isRow, word}
 use Rattle.row.proofs.Low.{is-row}
 use Rattle.record_step.specs.Step.{RowResult, stepRow, Stepped}
-use Rattle.row.proofs.Words.{state-shaped}
+use Rattle.record_step.proofs.Exits.{on-row}
+use Rattle.row.proofs.Words.{state-shaped, words-state}
 use Rattle.row.proofs.Holds.{Holds, shaped-holds}
 
 -- the step leaves a row that holds the state of its result
@@ -37,6 +42,12 @@ step-holds ws b room r = rw (is-row ws r) (go (step-cases (stateOf ws) b room))
 pub no-row-stays : (ws b : List ℕ) (room : ℕ) → isRow ws ≡ false → stepRow ws b room ≡ record { refusal = 2; written = []; words = ws }
 unfolding stepRow
 no-row-stays ws b room e = rw e
+
+-- a repeat leaves every word and writes nothing
+pub repeat-stays : (ws b : List ℕ) (room : ℕ) (r : Report) → Row ws → ((k : ℕ) → getD ws k 0 < word) → wellFormed (stateOf ws) ≡ true → fullRoom ≤ room
+    → checkOf b ≡ 0 → eventOf b ≡ aReport r → repeats (stateOf ws) r ≡ true → stepRow ws b room ≡ record { refusal = 0; written = []; words = ws }
+repeat-stays ws b room r row below well fits read is e =
+    on-row ws b room (is-row ws row) ∙ rw (repeat-step (stateOf ws) r well e b room fits read is, words-state ws row below)
 
 -- the bytes written stand in front, and those after them are untouched
 pub record InFront (bytes o o′ : List ℕ) : Type 0 where

@@ -12,7 +12,7 @@ ghost use Rattle.rules.specs.Refusals.{wellFormed, firstOf, proposalChecks, aRe
 ghost use Rattle.row.specs.Row.{stateOf, soundRow, lowRow};
 ghost use Rattle.trial.specs.Tried.{refusalFrom};
 
-// Check 13 on a report: it makes no number above L. Where a number is near L, the report is tried on a copy.
+// Check 13 on a report: it makes no number above L. A repeat makes none. Where a number is near L, another report is tried on a copy.
 fn report_within(state: &[u32], low: bool, r: Report) -> bool
     requires { ⌜ (soundRow (now state) ≡ true) × (low ≡ lowRow (now state)) ⌝ }
     ensures { λ t. ⌜ t ≡ wellFormed (reportRule (stateOf (now (state .entry))) r .state) ⌝ }
@@ -20,10 +20,13 @@ fn report_within(state: &[u32], low: bool, r: Report) -> bool
     if low {
         return true;
     }
+    if on_report::is_repeat(state, r) {
+        return true;
+    }
     let mut tried = [0u32; row::WORDS];
     let mut bytes = [0u8; ROOM];
     row_changes::copy(state, &mut tried);
-    on_report::act_on_report(&mut tried, r, &mut bytes);
+    on_report::act_on_change(&mut tried, r, &mut bytes);
     made_within(&tried)
 }
 

@@ -75,8 +75,8 @@ stages = record {
   unagreed = λ o h e. record { unmet = λ b v. e; own-has = λ b v. h .has-its b };
 }
 
-report-awaits : (s : State) (r : Report) → s .own < 16 → Awaits (reportRule s r .state)
-report-awaits s r l = staged-report stages s r
+report-awaits : (s : State) (r : Report) → s .own < 16 → Awaits s → Awaits (reportRule s r .state)
+report-awaits s r l k = staged-report stages s r (λ e. k)
     (λ e. record { unmet = λ b v. absurd (true-false _ v e); own-has = λ b v. absurd (true-false _ v e) })
     (λ e. unfold andThen opens opened withNet proposesFast in ours-proposed Fast _ (opened (withNet s (netAfter (s .net .bits) r))) l)
 
@@ -139,5 +139,5 @@ module _ (s : State) (p : Proposal) (c : Passes s p) (l : s .own < 16) (k : Awai
 
 -- every accepted event
 pub event-awaits : (s : State) (e : Event) → s .own < 16 → refusalOf s e ≡ 0 → Awaits s → Awaits (ruleOf s e .state)
-event-awaits s (aReport r) l z k = report-awaits s r l
+event-awaits s (aReport r) l z k = report-awaits s r l k
 event-awaits s (aProposal p) l z k = proposal-awaits s p (check-facts s p z) l k
