@@ -56,6 +56,36 @@ uint32_t room_step(uint32_t *state, size_t words, const uint8_t *record, size_t 
  * The words are only read. */
 uint32_t room_waiting_for(const uint32_t *state, size_t words);
 
+/* The words of a seat, which is what a desk keeps of the records that its office sends it. A program may read, store and copy
+ * them.
+ *   0  the seat, 0 to 63
+ *   1  the last start number, 0 before the first
+ *   2  the last view number, 0 before the first
+ *   3  0 where no change is open; any other word where one is */
+#define ROOM_SEAT_WORDS 4
+
+/* Makes a fresh seat in `desk`, over any words: the seat, start number 0, view number 0, no change open.
+ *   0  it is made
+ *   6  the seat is above 63, and the fresh seat 0 is made where `words` is ROOM_SEAT_WORDS; or `words` is not ROOM_SEAT_WORDS
+ * Where `words` is not ROOM_SEAT_WORDS no word is touched. */
+uint8_t room_seat_fresh(uint8_t seat, uint32_t *desk, size_t words);
+
+/* Hands the record of `length` bytes, a start notice or a view, to a seat, which changes in place. L is 2,000,000,000.
+ *   6   `words` is not ROOM_SEAT_WORDS, or word 0 is above 63
+ *   4   the record has under two bytes, or its mark is neither 53 43 (start notice) nor 56 57 (view)
+ *   5   its length is not 14 for a notice or 78 for a view
+ *   8   a notice's start number, a view's number, one of a view's sixteen start numbers, word 1 or word 2 is above L
+ *   9   the members lack the seat
+ *   10  a view has a start number that is not 0 for an office without a seat in the members
+ *   14  a notice's start number is not above word 1, or is below word 2
+ *   15  a view finds no change open, or its start number for the seat's office, seat / 4, is not word 1
+ *   16  a view's number is not above word 1
+ *   0   none of these: the record is accepted
+ * The first that applies is returned. Where the record is refused no word is touched. A notice that is accepted leaves its start
+ * number in word 1 and 1 in word 3, a view that is accepted its number in word 2 and 0 in word 3; the other words stay. The
+ * record is only read. */
+uint8_t room_seat_hear(uint32_t *desk, size_t words, const uint8_t *record, size_t length);
+
 #ifdef __cplusplus
 }
 #endif

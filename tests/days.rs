@@ -1,11 +1,13 @@
 // The worked days that document 01 does not star, the reports that change nothing, the edges of lengths and offices, the order of the refusals,
 // and where document 01 decides against Moshe, by the calls for C. A try is one call: its refusal, its count, every byte of the output, and where
 // it is refused or does nothing every word of the state. What is expected is written from documents 01 and 02; unwritten bytes are 170, as they
-// were lent.
+// were lent. Then a seat's own day and its refusals: a try is one record heard, its answer and the four words of the seat after it.
 #[link(name = "room", kind = "static")]
 extern "C" {
     fn room_fresh(office: u8, state: *mut u32, words: usize) -> u8;
     fn room_step(state: *mut u32, words: usize, record: *const u8, length: usize, out: *mut u8, room: usize) -> u32;
+    fn room_seat_fresh(seat: u8, desk: *mut u32, words: usize) -> u8;
+    fn room_seat_hear(desk: *mut u32, words: usize, record: *const u8, length: usize) -> u8;
 }
 
 const L: u32 = 2_000_000_000;
@@ -46,9 +48,10 @@ fn notice(start: u32, members: u64) -> Vec<u8> {
     [&b"SC"[..], &start.to_be_bytes(), &members.to_be_bytes()].concat()
 }
 
-// A view of office 0 alone.
-fn view(number: u32, members: u64, start_0: u32) -> Vec<u8> {
-    [&b"VW"[..], &number.to_be_bytes(), &members.to_be_bytes(), &start_0.to_be_bytes(), &[0; 60]].concat()
+// The start numbers of offices 0 and 1 are given.
+fn view(number: u32, members: u64, start_0: u32, start_1: u32) -> Vec<u8> {
+    let numbers = [&start_0.to_be_bytes()[..], &start_1.to_be_bytes(), &[0; 56]].concat();
+    [&b"VW"[..], &number.to_be_bytes(), &members.to_be_bytes(), &numbers].concat()
 }
 
 fn bytes(p: Proposal) -> Vec<u8> {
@@ -88,6 +91,46 @@ fn made(office: u8, words: usize) -> (u8, State) {
 
 fn fresh() -> State {
     made(0, WORDS).1
+}
+
+fn made_seat(seat: u8, words: usize) -> (u8, Vec<u32>) {
+    let mut made = vec![LENT_WORD; words];
+    let refusal = unsafe { room_seat_fresh(seat, made.as_mut_ptr(), words) };
+    (refusal, made)
+}
+
+// Office 0 and its seat 0.
+struct OfficeAndSeat {
+    office: State,
+    seat: Vec<u32>,
+}
+
+fn both_fresh() -> OfficeAndSeat {
+    OfficeAndSeat { office: fresh(), seat: made_seat(0, 4).1 }
+}
+
+// The notices and views among what is written; proposals go to other offices.
+fn to_seats(mut rest: &[u8]) -> Vec<&[u8]> {
+    let mut all = Vec::new();
+    while !rest.is_empty() {
+        let (record, more) = rest.split_at(match rest[0] {
+            b'S' => 14,
+            b'V' => 78,
+            _ => 84,
+        });
+        if record.len() != 84 {
+            all.push(record);
+        }
+        rest = more;
+    }
+    all
+}
+
+// A seat's answer to one record, and its words after it.
+fn hear(seat: &[u32], record: &[u8]) -> (u8, Vec<u32>) {
+    let mut after = seat.to_vec();
+    let refusal = unsafe { room_seat_hear(after.as_mut_ptr(), after.len(), record.as_ptr(), record.len()) };
+    (refusal, after)
 }
 
 fn with(place: usize, word: u32) -> State {
@@ -163,6 +206,27 @@ impl Tally {
     fn does_nothing(&mut self, name: &str, state: State, record: Vec<u8>) {
         self.unchanged(name, 182, state, &record, 0);
     }
+
+    // One event at the office: what it writes to its seats, each accepted by the seat, and the seat's words after each.
+    fn tells(&mut self, name: &str, at: &mut OfficeAndSeat, record: Vec<u8>, told: &[(Vec<u8>, [u32; 4])]) {
+        let (refusal, count, out) = step(&mut at.office, &record, 182);
+        let mut good = refusal == 0 && to_seats(&out[..count as usize]).into_iter().eq(told.iter().map(|(record, _)| record));
+        for (record, words) in told {
+            let (answer, after) = hear(&at.seat, record);
+            good &= answer == 0 && after == words;
+            at.seat = after;
+        }
+        self.say(name, good);
+    }
+
+    fn hears(&mut self, name: &str, seat: [u32; 4], record: &[u8], after: [u32; 4]) {
+        self.say(name, hear(&seat, record) == (0, after.to_vec()));
+    }
+
+    // The words stay, four or not.
+    fn not_heard(&mut self, name: &str, seat: &[u32], record: &[u8], refusal: u8) {
+        self.say(name, hear(seat, record) == (refusal, seat.to_vec()));
+    }
 }
 
 // M; where document 01 decides against Moshe: the slow test looks at every stored matching proposal of the other offices, once per event.
@@ -188,10 +252,10 @@ fn repeats(t: &mut Tally) {
     t.does_nothing("after C, the last report again", after_c(), report(0x10, 0));
     // the used proposals are gone, so seat 4 comes back without a view
     let left = || after(after_c(), report(0, 0x10));
-    t.accepted("after C, seat 4 leaves", after_c(), report(0, 0x10), [notice(3, 0x01), view(4, 0x01, 3)].concat());
+    t.accepted("after C, seat 4 leaves", after_c(), report(0, 0x10), [notice(3, 0x01), view(4, 0x01, 3, 0)].concat());
     t.does_nothing("after C, seat 4 leaves twice", left(), report(0, 0x10));
     t.accepted("after C, seat 4 leaves and comes back", left(), report(0x10, 0), [notice(4, 0x11), own(FAST, 4, 4, 3, 1)].concat());
-    t.accepted("after B, a present seat joins and leaves", after_b(), report(0x10, 0x10), [notice(3, 0x01), view(4, 0x01, 3)].concat());
+    t.accepted("after B, a present seat joins and leaves", after_b(), report(0x10, 0x10), [notice(3, 0x01), view(4, 0x01, 3, 0)].concat());
     let heard = |members| [notice(3, members), bytes(Proposal { sender: 0, kind: FAST, members, start: 3, number: 3, used: [1, 0, 0] })].concat();
     t.accepted("after B, a second seat of an office", after_b(), report(0x02, 0), heard(0x13));
     t.accepted("after B, the last seat of all", after_b(), report(1 << 63, 0), heard(0x8000_0000_0000_0011));
@@ -263,6 +327,99 @@ fn order(t: &mut Tally) {
     t.refused("13 comes last", after_b(), &wrong(1, FAST, 0x11, 1, 2, 0), 13);
 }
 
+// A seat's words: itself, its last start number, its last view number, whether a change is open. Seat 0 hears A, B and C, is away, and is back.
+fn seat_day(t: &mut Tally) {
+    let at = &mut both_fresh();
+    t.tells("A, seat 0 joins", at, report(0x01, 0), &[(notice(1, 0x01), [0, 1, 0, 1]), (view(2, 0x01, 1, 0), [0, 1, 2, 0])]);
+    t.tells("B, seat 4 joins", at, report(0x10, 0), &[(notice(2, 0x11), [0, 2, 2, 1])]);
+    t.tells("C, office 1 proposes", at, p(FAST, 1, 1, 0, 0), &[(view(3, 0x11, 2, 1), [0, 2, 3, 0])]);
+    t.accepted("after C, seat 0 leaves, 0 bytes", at.office.clone(), report(0, 0x01), vec![]);
+    t.tells("after C, seat 0 leaves", at, report(0, 0x01), &[]);
+    t.accepted("seat 0 comes back, 98 bytes", at.office.clone(), report(0x01, 0), [notice(3, 0x11), own(FAST, 3, 3, 2, 1)].concat());
+    t.tells("seat 0 comes back", at, report(0x01, 0), &[(notice(3, 0x11), [0, 3, 3, 1])]);
+    // office 1 had a view of seat 4 alone meanwhile, number 4
+    t.tells("office 1 proposes again", at, p(FAST, 4, 3, 2, 2), &[(view(5, 0x11, 3, 4), [0, 3, 5, 0])]);
+    t.tells("seat 4 leaves", at, report(0, 0x10), &[(notice(5, 0x01), [0, 5, 5, 1]), (view(6, 0x01, 5, 0), [0, 5, 6, 0])]);
+}
+
+// Seat 0 is away while its office goes on with seat 1. What lacks it is not for it, and would change nothing.
+fn seat_day_without_it(t: &mut Tally) {
+    let at = &mut both_fresh();
+    t.tells("seats 0 and 1 join", at, report(0x03, 0), &[(notice(1, 0x03), [0, 1, 0, 1]), (view(2, 0x03, 1, 0), [0, 1, 2, 0])]);
+    t.accepted("seat 0 leaves, seat 1 stays", at.office.clone(), report(0, 0x01), [notice(2, 0x02), view(3, 0x02, 2, 0)].concat());
+    at.office = after(at.office.clone(), report(0, 0x01));
+    t.not_heard("the notice without seat 0", &at.seat, &notice(2, 0x02), 9);
+    t.not_heard("the view without seat 0", &at.seat, &view(3, 0x02, 2, 0), 9);
+    t.tells("seat 0 comes back to seat 1", at, report(0x01, 0), &[(notice(3, 0x03), [0, 3, 2, 1]), (view(4, 0x03, 3, 0), [0, 3, 4, 0])]);
+}
+
+// Seat 0 after B, with a change open, and after C.
+const AFTER_B: [u32; 4] = [0, 2, 2, 1];
+const AFTER_C: [u32; 4] = [0, 2, 3, 0];
+
+fn seat_edges(t: &mut Tally) {
+    t.say("seat 0 is made", made_seat(0, 4) == (0, vec![0, 0, 0, 0]));
+    t.say("seat 63 is made", made_seat(63, 4) == (0, vec![63, 0, 0, 0]));
+    t.say("seat 64 gets 6, and the fresh seat 0", made_seat(64, 4) == (6, vec![0, 0, 0, 0]));
+    t.say("a seat in 3 words gets 6", made_seat(0, 3) == (6, vec![LENT_WORD; 3]));
+    t.say("a seat in 5 words gets 6", made_seat(0, 5) == (6, vec![LENT_WORD; 5]));
+    t.say("seat 64 in 5 words gets 6", made_seat(64, 5) == (6, vec![LENT_WORD; 5]));
+    t.hears("the last seat of all", [63, 0, 0, 0], &notice(1, 1 << 63), [63, 1, 0, 1]);
+    t.hears("a seat of office 1 looks at the start number of office 1", [4, 1, 2, 1], &view(3, 0x11, 2, 1), [4, 1, 3, 0]);
+    t.hears("a notice while a change is open", AFTER_B, &notice(3, 0x11), [0, 3, 2, 1]);
+    t.hears("start number L", AFTER_B, &notice(L, 0x11), [0, L, 2, 1]);
+    t.hears("view number L", AFTER_B, &view(L, 0x11, 2, 1), [0, 2, L, 0]);
+    t.hears("another office's start number L", AFTER_B, &view(3, 0x11, 2, L), [0, 2, 3, 0]);
+    t.hears("a start number that is the last view number", [0, 2, 5, 0], &notice(5, 0x11), [0, 5, 5, 1]);
+    t.hears("a view number is held to the last start number alone", [0, 2, L, 1], &view(3, 0x11, 2, 1), [0, 2, 3, 0]);
+    t.hears("a change is open by any word but 0, and a view leaves 0", [0, 2, 2, 7], &view(3, 0x11, 2, 1), [0, 2, 3, 0]);
+    t.hears("a change is open by any word but 0, and a notice leaves 1", [0, 2, 2, 7], &notice(3, 0x11), [0, 3, 2, 1]);
+    t.not_heard("a refusal leaves the word that was there", &[0, 2, 2, 7], &notice(2, 0x11), 14);
+}
+
+fn seat_refusals(t: &mut Tally) {
+    t.not_heard("seat 64 gets 6", &[64, 2, 2, 1], &notice(3, u64::MAX), 6);
+    t.not_heard("three words get 6", &[0, 2, 2], &notice(3, 0x11), 6);
+    t.not_heard("five words get 6", &[0, 2, 2, 1, 0], &notice(3, 0x11), 6);
+    t.not_heard("no byte gets 4", &AFTER_B, &[], 4);
+    t.not_heard("one byte of a notice gets 4", &AFTER_B, b"S", 4);
+    t.not_heard("a report gets 4", &AFTER_B, &report(0x11, 0), 4);
+    t.not_heard("a proposal gets 4", &AFTER_B, &p(FAST, 1, 1, 0, 0), 4);
+    t.not_heard("a notice of 13 bytes gets 5", &AFTER_B, &notice(3, 0x11)[..13], 5);
+    t.not_heard("a notice of 15 bytes gets 5", &AFTER_B, &[notice(3, 0x11), vec![0]].concat(), 5);
+    t.not_heard("a view of 14 bytes gets 5", &AFTER_B, &view(3, 0x11, 2, 1)[..14], 5);
+    t.not_heard("a view of 79 bytes gets 5", &AFTER_B, &[view(3, 0x11, 2, 1), vec![0]].concat(), 5);
+    t.not_heard("a start number above L gets 8", &AFTER_B, &notice(L + 1, 0x11), 8);
+    t.not_heard("a view number above L gets 8", &AFTER_B, &view(L + 1, 0x11, 2, 1), 8);
+    t.not_heard("another office's start number above L gets 8", &AFTER_B, &view(3, 0x11, 2, L + 1), 8);
+    t.not_heard("a last start number above L gets 8", &[0, L + 1, 2, 1], &notice(3, 0x11), 8);
+    t.not_heard("a last view number above L gets 8", &[0, 2, L + 1, 1], &view(3, 0x11, 2, 1), 8);
+    t.not_heard("a notice for seats 1 and 4 gets 9", &AFTER_B, &notice(3, 0x12), 9);
+    t.not_heard("a view of seats 1 and 4 gets 9", &AFTER_B, &view(3, 0x12, 2, 1), 9);
+    t.not_heard("a start number of office 1 without its seats gets 10", &AFTER_B, &view(3, 0x01, 2, 1), 10);
+    t.not_heard("the last start number again gets 14", &AFTER_B, &notice(2, 0x11), 14);
+    t.not_heard("a start number below the last view number gets 14", &[0, 2, 5, 0], &notice(4, 0x11), 14);
+    t.not_heard("the view of C again gets 15", &AFTER_C, &view(3, 0x11, 2, 1), 15);
+    t.not_heard("a view with another start number of office 0 gets 15", &AFTER_B, &view(4, 0x11, 3, 2), 15);
+    t.not_heard("view 2 after start number 2 gets 16", &AFTER_B, &view(2, 0x11, 2, 1), 16);
+}
+
+// Each input is wrong in all that comes after the number it gets.
+fn seat_order(t: &mut Tally) {
+    t.not_heard("6 before 4 and 8", &[64, L + 1, 2, 0], &[], 6);
+    t.not_heard("6 before 5 and 8", &[64, L + 1, 2, 0], b"SC", 6);
+    t.not_heard("4 before 8", &[0, L + 1, 2, 0], b"??", 4);
+    t.not_heard("5 before 8", &[0, 2, L + 1, 0], b"VW", 5);
+    t.not_heard("8 before 9, a notice", &[0, 2, L + 1, 0], &notice(1, 0x10), 8);
+    t.not_heard("8 before 9, a view", &AFTER_C, &view(1, 0x10, L + 1, 1), 8);
+    t.not_heard("9 before 14", &AFTER_C, &notice(1, 0x10), 9);
+    t.not_heard("9 before 10", &AFTER_C, &view(1, 0x10, 3, 1), 9);
+    t.not_heard("10 before 15", &AFTER_C, &view(1, 0x01, 3, 1), 10);
+    t.not_heard("15 before 16, no change open", &AFTER_C, &view(1, 0x11, 2, 1), 15);
+    t.not_heard("15 before 16, another start number", &AFTER_B, &view(1, 0x11, 3, 1), 15);
+    t.not_heard("16 comes last", &AFTER_B, &view(1, 0x11, 2, 1), 16);
+}
+
 fn main() {
     let mut tally = Tally { passed: 0, failed: 0 };
     days(&mut tally);
@@ -271,6 +428,11 @@ fn main() {
     edges(&mut tally);
     states(&mut tally);
     order(&mut tally);
+    seat_day(&mut tally);
+    seat_day_without_it(&mut tally);
+    seat_edges(&mut tally);
+    seat_refusals(&mut tally);
+    seat_order(&mut tally);
     println!("{} passed, {} failed", tally.passed, tally.failed);
     std::process::exit((tally.failed != 0) as i32);
 }

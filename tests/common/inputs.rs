@@ -27,6 +27,11 @@ pub fn a_play(random: &mut Random, records: usize) -> (usize, Vec<Vec<u8>>) {
     let pool = random.next() & random.next() | 0xff;
     let all: Vec<usize> = offices(pool).collect();
     let kept = all[random.below(all.len())];
+    (kept, handed(random, pool, kept, records))
+}
+
+// The records that an office is handed in a play with some seats that come and go.
+pub fn handed(random: &mut Random, pool: u64, kept: usize, records: usize) -> Vec<Vec<u8>> {
     let habits = habits(random);
     let mut play = Play::new(Random(random.next() | 1), habits, pool, kept);
     play.go(records);
@@ -37,7 +42,7 @@ pub fn a_play(random: &mut Random, records: usize) -> (usize, Vec<Vec<u8>>) {
         handed.push(record.to_vec());
         rest = more;
     }
-    (kept, handed)
+    handed
 }
 
 pub fn some<T: Copy>(random: &mut Random, of: &[T]) -> T {

@@ -5,7 +5,8 @@ use Prim.Native.Nat.{ℕ}
 use lib.Dec.{ltb}
 use Rattle.laws.specs.Upd.{ifb}
 use Rattle.rules.specs.State.{State}
-use Rattle.rules.specs.Refusals.{within, fullRoom}
+use Rattle.number_checks.specs.Numbers.{within}
+use Rattle.rules.specs.Refusals.{fullRoom}
 use Rattle.row.specs.Row.{soundRow}
 
 -- checks 2 and 3 on words and an output

@@ -1,9 +1,10 @@
 // Checks 1 to 3 and 11 to 13, and the order of 6 to 12; inner to the layer of the step. The records answer 4 and 5.
+use number_checks::LIMIT;
 use records::Proposal;
-use row::LIMIT;
 ghost use mathlib.Core.Path.{_≡_};
 ghost use Prim.Native.Nat.{_<_};
-ghost use Rattle.rules.specs.Refusals.{firstOf, proposalChecks, madeOf};
+ghost use Rattle.laws.specs.Checks.{firstOf};
+ghost use Rattle.rules.specs.Refusals.{proposalChecks, madeOf};
 ghost use Rattle.row.specs.Row.{Row, stateOf, lowRow};
 ghost use Rattle.checks.specs.Checks.{unready, madeWithin};
 

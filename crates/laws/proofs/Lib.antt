@@ -1,6 +1,7 @@
 -- The laws of the definitions in specs/.
 pub mod Big
 pub mod Bit
+pub mod Checks
 pub mod Fin
 pub mod Grid
 pub mod Loops

@@ -1,5 +1,6 @@
 pub mod Big
 pub mod Bit
+pub mod Checks
 pub mod Fin
 pub mod Lowest
 pub mod Tab

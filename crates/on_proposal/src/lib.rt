@@ -8,7 +8,8 @@ ghost use mathlib.Core.Path.{_≡_};
 ghost use Prim.Native.Nat.{_≤_, _<_};
 ghost use lib.ListN.{length};
 ghost use Rattle.rules.specs.Rules.{proposalRule};
-ghost use Rattle.rules.specs.Refusals.{limit, fullRoom, wellFormed};
+ghost use Rattle.number_checks.specs.Numbers.{limit};
+ghost use Rattle.rules.specs.Refusals.{fullRoom, wellFormed};
 ghost use Rattle.row.specs.Row.{Row, stateOf};
 ghost use Rattle.parts.specs.Did.{Did};
 

@@ -1,14 +1,15 @@
--- Checks 4 and 5 on a lone report or proposal, by those on a record's own mark and length: a report's first, then a proposal's.
-use mathlib.Core.Path.{_≡_, refl}
+-- Checks 4 and 5 where either of two marks passes, by those on a record's own mark and length: one mark first, then the other.
+use mathlib.Core.Path.{_≡_, refl, _∙_}
 use mathlib.Core.Bool.{Bool, true, false}
 use mathlib.Core.List.{List}
-use Prim.Native.Nat.{ℕ}
+use Prim.Native.Nat.{ℕ, _<_}
 use native.Mathlib.Omega.{arith}
 use lib.ListN.{length}
 use lib.Dec.{eqb}
+use borrow.Author.Tests.{ne-eqb}
 use Rattle.laws.proofs.Tab.{length-tab}
 use Rattle.laws.specs.Upd.{ifb}
-use Rattle.records.specs.Layout.{valueOf, markOf, formFor, formOf, checkFor, checkOf, checkOwn, decodeProposal}
+use Rattle.records.specs.Layout.{valueOf, markOf, formFor, formOf, checkFor, checkOf, checkEither, checkOwn, decodeProposal}
 use Rattle.records.specs.Layout.{reportMark, proposalMark, reportLength, proposalLength}
 
 -- a mark that a check passes is not refused by 4
@@ -16,26 +17,43 @@ passed-mark : (t : Bool) → _≡_ {A = ℕ} (ifb t 0 5) 4 → ⊥
 passed-mark true e = omega arith
 passed-mark false e = omega arith
 
-module _ (b : List ℕ) where
-  -- where a report's own mark is not refused, its own checks are the two checks
-  pub by-report : (checkOwn reportMark reportLength b ≡ 4 → ⊥) → checkOf b ≡ checkOwn reportMark reportLength b
-  unfolding checkOf checkOwn formOf formFor checkFor
-  by-report h = go (eqb (markOf b) (valueOf reportMark)) refl
+module _ (m : List ℕ) (j : ℕ) (n : List ℕ) (k : ℕ) (b : List ℕ) where
+  -- where the first one's own mark is not refused, its own checks are the two checks
+  pub by-first : (checkOwn m j b ≡ 4 → ⊥) → checkEither m j n k b ≡ checkOwn m j b
+  unfolding checkEither checkOwn checkFor
+  by-first h = go (eqb (markOf b) (valueOf m)) refl
     where
-      go : (s : Bool) → eqb (markOf b) (valueOf reportMark) ≡ s → checkOf b ≡ checkOwn reportMark reportLength b
+      go : (s : Bool) → eqb (markOf b) (valueOf m) ≡ s → checkEither m j n k b ≡ checkOwn m j b
       go true d = rw d
       go false d = absurd (h (rw d))
 
-  -- where it is refused, a proposal's are
-  pub by-proposal : checkOwn reportMark reportLength b ≡ 4 → checkOf b ≡ checkOwn proposalMark proposalLength b
-  unfolding checkOf checkOwn formOf formFor checkFor
-  by-proposal h = go (eqb (markOf b) (valueOf reportMark)) (eqb (markOf b) (valueOf proposalMark)) refl refl
+  -- where it is refused, the second one's are
+  pub by-second : 0 < j → checkOwn m j b ≡ 4 → checkEither m j n k b ≡ checkOwn n k b
+  unfolding checkEither checkOwn checkFor
+  by-second l h = go (eqb (markOf b) (valueOf m)) (eqb (markOf b) (valueOf n)) refl refl
     where
-      go : (s t : Bool) → eqb (markOf b) (valueOf reportMark) ≡ s → eqb (markOf b) (valueOf proposalMark) ≡ t
-          → checkOf b ≡ checkOwn proposalMark proposalLength b
-      go true t d e = absurd (passed-mark (eqb (length b) reportLength) (rw d at h))
+      go : (s t : Bool) → eqb (markOf b) (valueOf m) ≡ s → eqb (markOf b) (valueOf n) ≡ t → checkEither m j n k b ≡ checkOwn n k b
+      go true t d e = absurd (passed-mark (eqb (length b) j) (rw (d, ne-eqb j 0 (λ z. omega arith)) at h))
       go false true d e = rw (d, e)
       go false false d e = rw (d, e)
+
+module _ (b : List ℕ) where
+  -- the two checks on a lone report or proposal
+  either-of-two : checkOf b ≡ checkEither reportMark reportLength proposalMark proposalLength b
+  unfolding checkOf checkEither formOf formFor
+  either-of-two = go (eqb (markOf b) (valueOf reportMark)) (eqb (markOf b) (valueOf proposalMark)) refl refl
+    where
+      go : (s t : Bool) → eqb (markOf b) (valueOf reportMark) ≡ s → eqb (markOf b) (valueOf proposalMark) ≡ t
+          → checkOf b ≡ checkEither reportMark reportLength proposalMark proposalLength b
+      go true t d e = rw d
+      go false true d e = rw (d, e)
+      go false false d e = rw (d, e)
+
+  pub by-report : (checkOwn reportMark reportLength b ≡ 4 → ⊥) → checkOf b ≡ checkOwn reportMark reportLength b
+  by-report h = either-of-two ∙ by-first reportMark reportLength proposalMark proposalLength b h
+
+  pub by-proposal : checkOwn reportMark reportLength b ≡ 4 → checkOf b ≡ checkOwn proposalMark proposalLength b
+  by-proposal h = either-of-two ∙ by-second reportMark reportLength proposalMark proposalLength b (omega arith) h
 
   -- any bytes have sixteen used numbers
   pub used-sixteen : length (decodeProposal b .used) ≡ 16

@@ -111,6 +111,10 @@ checkFor n b = ifb (eqb n 0) 4 (ifb (eqb (length b) n) 0 5)
 unfoldable pub checkOf : List ℕ → ℕ
 checkOf b = checkFor (formOf b .length) b
 
+-- the two checks where either of two marks passes: m with length j, n with length k
+unfoldable pub checkEither : List ℕ → ℕ → List ℕ → ℕ → List ℕ → ℕ
+checkEither m j n k b = checkFor (ifb (eqb (markOf b) (valueOf m)) j (ifb (eqb (markOf b) (valueOf n)) k 0)) b
+
 -- the two checks on a lone record, on its own mark m and its own length n
 unfoldable pub checkOwn : List ℕ → ℕ → List ℕ → ℕ
 checkOwn m n b = checkFor (ifb (eqb (markOf b) (valueOf m)) n 0) b

@@ -20,8 +20,5 @@ pub use readers::view_number;
 
 pub const WORDS: usize = 425;
 
-// L.
-pub const LIMIT: u32 = 2_000_000_000;
-
 // Numbers up to this make none above L in one event.
 pub const LOW: u32 = 1_073_741_823;

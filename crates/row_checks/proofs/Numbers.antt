@@ -1,5 +1,5 @@
 -- Check 2 by its stretches of numbers: those before the stored proposals, and those of each.
-use mathlib.Core.Path.{_≡_, refl, sym, ap, _∙_}
+use mathlib.Core.Path.{_≡_, refl, ap, _∙_}
 use mathlib.Core.Bool.{Bool, true, false, not, _&&_, _||_}
 use mathlib.Core.List.{List}
 use Prim.Native.Nat.{ℕ, zero, suc, _+_, _<_}
@@ -9,7 +9,8 @@ use lib.Dec.{leb}
 use Rattle.laws.specs.Fin.{allb}
 use Rattle.laws.proofs.Fin.{allb-ext}
 use Rattle.rules.specs.State.{storedAt}
-use Rattle.rules.specs.Refusals.{within, slotWithin, wellFormed}
+use Rattle.number_checks.specs.Numbers.{within}
+use Rattle.rules.specs.Refusals.{slotWithin, wellFormed}
 use Rattle.row.specs.Row.{ownPlace, startPlace, numberPlace, viewPlace, startsPlace, acceptedPlace, usedPlace, numbersPlace, stateOf}
 use Rattle.row.proofs.Low.{slot-words, well-words}
 

@@ -1,5 +1,5 @@
 // Check 2 of the state that words hold, and whether all its numbers are low; inner to the layer of the step.
-use row::LIMIT;
+use number_checks::LIMIT;
 use row::LOW;
 use row::places;
 use row::stored_present;
@@ -9,7 +9,8 @@ ghost use lib.Dec.{leb};
 ghost use lib.ListN.{length, getD};
 ghost use Rattle.laws.specs.Fin.{allb};
 ghost use Rattle.rules.specs.State.{storedAt};
-ghost use Rattle.rules.specs.Refusals.{within, slotWithin, wellFormed};
+ghost use Rattle.number_checks.specs.Numbers.{within};
+ghost use Rattle.rules.specs.Refusals.{slotWithin, wellFormed};
 ghost use Rattle.row.specs.Row.{Row, stateOf, soundRow, lowRow, low, startPlace, numbersCount};
 
 const LAST_OFFICE: u32 = 15;

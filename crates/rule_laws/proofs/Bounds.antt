@@ -14,7 +14,8 @@ use Rattle.records.specs.declared.Proposal.{Proposal}
 use Rattle.rules.specs.State.{Mode, None, Fast, Slow, Slot, State, keeping, storedAt, usedFor, numberIn}
 use Rattle.rules.specs.Rules.{andThen, withNet, opened, opens, nextNumber, ownProposal, proposed, proposesFast, received}
 use Rattle.rules.specs.Rules.{slowNumber, beginsIn, proposesSlow, agreed, startOf, viewOf, concluded, reportRule, proposalRule}
-use Rattle.rules.specs.Refusals.{limit, wellFormed, aReport, aProposal}
+use Rattle.number_checks.specs.Numbers.{limit}
+use Rattle.rules.specs.Refusals.{wellFormed, aReport, aProposal}
 use Rattle.rules.specs.Bounds.{SlotCapped, Capped, low}
 use Rattle.rule_laws.proofs.Parts.{proposed-reads, received-reads}
 use Rattle.rule_laws.proofs.Tests.{NumberFrom, joins, starts, slow-number, agreed-out}

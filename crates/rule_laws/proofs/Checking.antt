@@ -11,7 +11,8 @@ use Rattle.laws.specs.Upd.{ifb}
 use Rattle.offices.specs.Offices.{serves}
 use Rattle.records.specs.declared.Proposal.{Proposal}
 use Rattle.rules.specs.State.{State, fast, slow, acceptedAt, usedFor}
-use Rattle.rules.specs.Refusals.{firstOf, formChecks, wrongSender, wrongKind, wrongNumber, withoutSeat, strayUsed, notAbove, usedAhead, proposalChecks}
+use Rattle.laws.specs.Checks.{firstOf}
+use Rattle.rules.specs.Refusals.{formChecks, wrongSender, wrongKind, wrongNumber, withoutSeat, strayUsed, notAbove, usedAhead, proposalChecks}
 
 -- the first of 6 to 10 that applies, and the first of them and of more
 abbrev first : Bool → Bool → Bool → Bool → Bool → ℕ → ℕ

@@ -10,7 +10,8 @@ use Rattle.laws.specs.Lists.{Every, none, more}
 use Rattle.laws.proofs.Fin.{if-cases, as-facts}
 use Rattle.records.specs.Layout.{formOf, checkFor, checkOf}
 use Rattle.rules.specs.State.{State}
-use Rattle.rules.specs.Refusals.{wellFormed, fullRoom, Check, firstOf, Made, madeOf, unreadable, Event, aReport, aProposal, eventOf, proposalChecks, refusalOf}
+use Rattle.laws.specs.Checks.{Check, firstOf}
+use Rattle.rules.specs.Refusals.{wellFormed, fullRoom, Made, madeOf, unreadable, Event, aReport, aProposal, eventOf, proposalChecks, refusalOf}
 use Rattle.rules.specs.Refusals.{ruleOf, Result, accepting, actOf, stepOf}
 
 -- 0, or from 2 to 13

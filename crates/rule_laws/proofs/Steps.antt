@@ -1,6 +1,6 @@
 -- The checks as plain facts, and the step by cases: refused, or accepted with what is then known.
 use mathlib.Core.Path.{_≡_, refl, ap}
-use mathlib.Core.Bool.{Bool, true, false, _&&_, not}
+use mathlib.Core.Bool.{Bool, true, false, not}
 use mathlib.Core.Logic.{_⊎_, inl, inr, _↔_}
 use mathlib.Core.List.{List}
 use Prim.Native.Nat.{ℕ, suc, _≤_, _<_}
@@ -9,16 +9,19 @@ use native.Mathlib.Decide.{ℕ-discrete}
 use lib.ListN.{getD}
 use lib.Dec.{eqb, ltb}
 use borrow.Author.Tests.{ltb-false, leb-false, eqb-true, not-false, le-ltb, lt-leb, ne-eqb}
-use Rattle.laws.proofs.Fin.{anyb-none, none-anyb, as-facts, or-cases, true-false}
+use Rattle.laws.specs.Checks.{firstOf}
+use Rattle.laws.proofs.Checks.{first-none, no-reason}
+use Rattle.laws.proofs.Fin.{as-facts, or-cases, true-false}
 use Rattle.laws.proofs.Tab.{getD-tab}
-use Rattle.laws.specs.Upd.{ifb}
 use Rattle.offices.specs.Offices.{serves}
+use Rattle.number_checks.specs.Numbers.{limit, within}
+use Rattle.number_checks.proofs.Laws.{stray-out, stray-in}
 use Rattle.records.specs.Layout.{checkOf}
 use Rattle.records.specs.declared.Proposal.{Proposal}
 use Rattle.rules.specs.State.{Slot, State, fast, slow, storedAt, acceptedAt, usedAt, usedFor}
 use Rattle.rules.specs.Rules.{Outcome, fresh}
 use Rattle.rule_laws.proofs.Parts.{fresh-reads}
-use Rattle.rules.specs.Refusals.{limit, fullRoom, within, slotWithin, wellFormed, firstOf, unreadable, Event, eventOf, wrongSender}
+use Rattle.rules.specs.Refusals.{fullRoom, slotWithin, wellFormed, unreadable, Event, eventOf, wrongSender}
 use Rattle.rules.specs.Refusals.{wrongKind, wrongNumber, withoutSeat, strayUsed, notAbove, usedAhead, proposalChecks, refusalOf, ruleOf, Result}
 use Rattle.rules.specs.Refusals.{refused, accepting, actOf, stepOf}
 
@@ -108,19 +111,6 @@ pub record Passes (s : State) (p : Proposal) : Type 0 where
   pub above : acceptedAt s (p .sender) < p .number
   pub behind : usedFor p (s .own) ≤ s .number
 
--- no check of a list applies
-first-none : (t : Bool) (n r : ℕ) → (ifb t (suc n) r ≡ 0) ↔ ((t ≡ false) × (r ≡ 0))
-first-none true n r = (λ e. absurd (omega arith), λ h. absurd (true-false true refl (h .0)))
-first-none false n r = (λ e. (refl, e), λ h. h .1)
-
-stray-out : (a : Bool) (n : ℕ) → not a && not (eqb n 0) ≡ false → a ≡ false → n ≡ 0
-stray-out true n e f = absurd (true-false true refl f)
-stray-out false n e f = simp as-facts at e
-
-stray-in : (a : Bool) (n : ℕ) → (a ≡ false → n ≡ 0) → not a && not (eqb n 0) ≡ false
-stray-in true n h = refl
-stray-in false n h = simp as-facts (h refl)
-
 pub check-facts : (s : State) (p : Proposal) → firstOf (proposalChecks s p) ≡ 0 → Passes s p
 unfolding proposalChecks wrongSender wrongKind wrongNumber withoutSeat strayUsed notAbove usedAhead
 check-facts s p e =
@@ -143,7 +133,7 @@ check-facts s p e =
       used = λ o l. let u = f8 .1 o l in omega arith;
       seat = f9 .0;
       ownSeat = f9 .1;
-      stray = λ o l. stray-out (serves (p .members .bits) o) (usedFor p o) (anyb-none 16 _ (c10 .0) o l);
+      stray = stray-out (p .used) (p .members .bits) (c10 .0);
       above = leb-false _ _ (c11 .0);
       behind = ltb-false _ _ (c12 .0);
     }
@@ -162,7 +152,7 @@ facts-check s p h =
     let c7 : wrongKind p ≡ false = kinds (h .kind) in
     let c8 : wrongNumber p ≡ false = simp as-facts ((((a .0, a .1), b .0), b .1), λ o l. let u = h .used o l in omega arith) in
     let c9 : withoutSeat (s .own) p ≡ false = simp as-facts (h .seat, h .ownSeat) in
-    let c10 : strayUsed p ≡ false = none-anyb 16 _ (λ o l. stray-in (serves (p .members .bits) o) (usedFor p o) (h .stray o l)) in
+    let c10 : strayUsed p ≡ false = stray-in (p .used) (p .members .bits) (h .stray) in
     let c11 : notAbove s p ≡ false = lt-leb _ _ (h .above) in
     let c12 : usedAhead s p ≡ false = le-ltb _ _ (h .behind) in
     rw (c6, c7, c8, c9, c10, c11, c12)
@@ -205,13 +195,6 @@ act-cases s e = go (ℕ-discrete (refusalOf s e) 0) (wellFormed (ruleOf s e .sta
     go (yes z) true w = inr (record { passes = z; within = w })
     go (yes z) false w = inl (rw (z, w) (record { reason = omega arith; is = refl }))
 
-no-reason : (n : ℕ) → ifb (not (eqb n 0)) n 0 ≡ 0 → n ≡ 0
-no-reason n e = go (ℕ-discrete n 0)
-  where
-    go : Dec (n ≡ 0) → n ≡ 0
-    go (yes z) = z
-    go (no z) = rw (ne-eqb n 0 z) at e
-
 -- checks 2 to 5 pass
 pub readable-facts : (s : State) (b : List ℕ) (room : ℕ)
     → (unreadable s b room ≡ 0) ↔ ((wellFormed s ≡ true) × (fullRoom ≤ room) × (checkOf b ≡ 0))
@@ -220,7 +203,7 @@ readable-facts s b room = (
   λ e.
       let c2 = first-none (not (wellFormed s)) 1 _ .0 e in
       let c3 = first-none (ltb room fullRoom) 2 _ .0 (c2 .1) in
-      (not-false _ (c2 .0), ltb-false room fullRoom (c3 .0), no-reason (checkOf b) (c3 .1)),
+      (not-false _ (c2 .0), ltb-false room fullRoom (c3 .0), no-reason (checkOf b) 0 (c3 .1) .0),
   λ h. rw (h .0, le-ltb room fullRoom (h .1), h .2),
 )
 

@@ -17,7 +17,8 @@ use Rattle.records.specs.declared.View.{View}
 use Rattle.rules.specs.State.{Mode, None, Fast, Slow, State, keeping, usedFor}
 use Rattle.rules.specs.Rules.{Written, notice, proposal, view, Outcome, andThen, opened, noticeOf, opens, nextNumber, ownProposal}
 use Rattle.rules.specs.Rules.{proposed, hasRecipient, proposesFast, slowNumber, proposesSlow, agreed, startOf, viewOf, concluded}
-use Rattle.rules.specs.Refusals.{limit, Event, eventOf, ruleOf, stepOf}
+use Rattle.number_checks.specs.Numbers.{limit}
+use Rattle.rules.specs.Refusals.{Event, eventOf, ruleOf, stepOf}
 use Rattle.rule_laws.proofs.Tests.{agreed-out, next-above, slow-above}
 use Rattle.rule_laws.proofs.Steps.{SlotWithin, Refused, Accepts, well-facts, step-cases, step-accepts}
 use Rattle.rule_laws.proofs.Walk.{concludes, Walk, walk-event}

@@ -4,21 +4,16 @@ use mathlib.Core.List.{List, [], _∷_, _++_}
 use Prim.Native.Nat.{ℕ}
 use lib.ListN.{getD, length}
 use lib.Dec.{eqb, ltb, leb}
-use Rattle.laws.specs.Fin.{allb, anyb}
+use Rattle.laws.specs.Checks.{Check, firstOf}
+use Rattle.laws.specs.Fin.{allb}
 use Rattle.laws.specs.Upd.{ifb}
 use Rattle.offices.specs.Offices.{serves}
+use Rattle.number_checks.specs.Numbers.{limit, within, aboveLimit, strayNumber}
 use Rattle.records.specs.Layout.{reportMark, valueOf, checkOf, markOf, decodeReport, decodeProposal, encodeProposal, encodeNotice, encodeView}
 use Rattle.records.specs.declared.Report.{Report}
 use Rattle.records.specs.declared.Proposal.{Proposal}
 use Rattle.rules.specs.State.{Slot, State, fast, slow, storedAt, acceptedAt, usedAt, usedFor}
 use Rattle.rules.specs.Rules.{Written, notice, proposal, view, Outcome, fresh, reportRule, proposalRule}
-
--- L: no number in a state or record passes it
-abbrev pub limit : ℕ
-limit = 2_000_000_000
-
-abbrev pub within : ℕ → Bool
-within n = leb n limit
 
 -- the numbers of a stored proposal; an empty slot has none
 unfoldable pub slotWithin : Slot → Bool
@@ -32,16 +27,6 @@ wellFormed s =
     leb (s .own) 15 && within (s .view .number) && within (s .start) && within (s .number)
     && allb 16 (λ o. within (getD (s .view .starts) o 0)) && allb 16 (λ o. within (acceptedAt s o))
     && allb 16 (λ o. within (usedAt s o)) && allb 16 (λ o. slotWithin (storedAt s o))
-
--- a reason to refuse: its number, and whether it applies
-pub record Check : Type 0 where
-  pub number : ℕ
-  pub applies : Bool
-
--- the first that applies, and 0 where none does
-abbrev pub firstOf : List Check → ℕ
-firstOf [] = 0
-firstOf (c ∷ cs) = ifb (c .applies) (c .number) (firstOf cs)
 
 -- 1, when a state is made: the fresh state of office 0 comes back with the number
 pub record Made : Type 0 where
@@ -79,13 +64,13 @@ wrongKind p = not (eqb (p .kind) fast || eqb (p .kind) slow)
 unfoldable pub wrongNumber : Proposal → Bool
 wrongNumber p =
     eqb (p .start) 0 || ltb limit (p .start) || eqb (p .number) 0 || ltb limit (p .number)
-    || anyb 16 (λ o. ltb limit (usedFor p o))
+    || aboveLimit (p .used)
 
 unfoldable pub withoutSeat : ℕ → Proposal → Bool
 withoutSeat own p = not (serves (p .members .bits) (p .sender)) || not (serves (p .members .bits) own)
 
 unfoldable pub strayUsed : Proposal → Bool
-strayUsed p = anyb 16 (λ o. not (serves (p .members .bits) o) && not (eqb (usedFor p o) 0))
+strayUsed p = strayNumber (p .members .bits) (p .used)
 
 abbrev pub formChecks : ℕ → Proposal → List Check
 formChecks own p =

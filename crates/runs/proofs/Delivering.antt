@@ -16,7 +16,8 @@ use Rattle.records.proofs.RoundTrip.{proposal-back, proposal-checked}
 use Rattle.records.specs.declared.Proposal.{Proposal}
 use Rattle.rules.specs.State.{State, usedAt}
 use Rattle.rules.specs.Rules.{nothingWritten, received, receives, proposalRule}
-use Rattle.rules.specs.Refusals.{limit, wellFormed, Event, aProposal, refusalOf, ruleOf, Result, stepOf}
+use Rattle.number_checks.specs.Numbers.{limit}
+use Rattle.rules.specs.Refusals.{wellFormed, Event, aProposal, refusalOf, ruleOf, Result, stepOf}
 use Rattle.rule_laws.proofs.Steps.{accepted, Refused, Accepts, Passes, well-facts, check-facts, facts-check, step-accepts, step-cases}
 use Rattle.rule_laws.proofs.Parts.{received-reads}
 use Rattle.rule_laws.proofs.Encoded.{proposal-event, sender-stays}

@@ -16,7 +16,8 @@ use Rattle.records.proofs.RoundTrip.{report-checked}
 use Rattle.records.specs.declared.Report.{Report}
 use Rattle.rules.specs.State.{State, usedAt}
 use Rattle.rules.specs.Rules.{nothingWritten, netAfter, withNet, repeats, seated, receives, reportRule}
-use Rattle.rules.specs.Refusals.{limit, wellFormed, Event, aReport, ruleOf, Result, stepOf}
+use Rattle.number_checks.specs.Numbers.{limit}
+use Rattle.rules.specs.Refusals.{wellFormed, Event, aReport, ruleOf, Result, stepOf}
 use Rattle.rule_laws.proofs.Steps.{accepted, Refused, Accepts, well-facts, step-accepts}
 use Rattle.rule_laws.proofs.Repeats.{repeat-net, change-net, repeat-rule}
 use Rattle.rule_laws.proofs.Parts.{withNet-reads}

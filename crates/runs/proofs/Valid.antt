@@ -13,7 +13,7 @@ use Rattle.records.specs.Fits.{FitsProposal}
 use Rattle.records.specs.declared.Proposal.{Proposal}
 use Rattle.rules.specs.State.{State, fast, slow, usedAt, usedFor}
 use Rattle.rules.specs.Rules.{receives}
-use Rattle.rules.specs.Refusals.{limit}
+use Rattle.number_checks.specs.Numbers.{limit}
 use Rattle.rule_laws.proofs.Steps.{WellFormed}
 use Rattle.runs.proofs.Proposals.{Begun, MadeBetween}
 

@@ -6,19 +6,22 @@ use lib.Bits.{bitOr, bitAnd}
 use Rattle.laws.specs.Bit.{bit}
 use Rattle.laws.specs.Upd.{ifb}
 
+abbrev pub seatCount : ℕ
+seatCount = 64
+
 -- bit s of the set x is set: seat s is in it
 unfoldable pub has : ℕ → ℕ → Bool
 has x s = eqb (bit x s) 1
 
 -- a seat above 63 is in no set, and leaves a set as it is
 unfoldable pub containsOf : ℕ → ℕ → Bool
-containsOf x s = ltb s 64 && has x s
+containsOf x s = ltb s seatCount && has x s
 
 unfoldable pub insertOf : ℕ → ℕ → ℕ
-insertOf x s = ifb (ltb s 64) (bitOr x (2 ^ s)) x
+insertOf x s = ifb (ltb s seatCount) (bitOr x (2 ^ s)) x
 
 unfoldable pub removeOf : ℕ → ℕ → ℕ
-removeOf x s = ifb (ltb s 64) (bitAnd x (2 ^ 64 - 1 - 2 ^ s)) x
+removeOf x s = ifb (ltb s seatCount) (bitAnd x (2 ^ 64 - 1 - 2 ^ s)) x
 
 -- the seats of x or of y
 unfoldable pub unionOf : ℕ → ℕ → ℕ

@@ -3,7 +3,7 @@ ghost use mathlib.Core.Path.{_≡_};
 ghost use lib.Dec.{eqb};
 ghost use Rattle.seats.specs.Seats.{containsOf, insertOf, removeOf, unionOf, withoutOf};
 
-const SEATS: u8 = 64;
+pub const SEATS: u8 = 64;
 
 // Bit s of `bits` is set when seat s is in the set.
 pub struct SeatSet {

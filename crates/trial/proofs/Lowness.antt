@@ -6,7 +6,8 @@ use Rattle.records.specs.declared.Report.{Report}
 use Rattle.records.specs.declared.Proposal.{Proposal}
 use Rattle.rules.specs.State.{State}
 use Rattle.rules.specs.Rules.{reportRule, proposalRule}
-use Rattle.rules.specs.Refusals.{wellFormed, firstOf, proposalChecks}
+use Rattle.laws.specs.Checks.{firstOf}
+use Rattle.rules.specs.Refusals.{wellFormed, proposalChecks}
 use Rattle.rule_laws.proofs.Steps.{check-facts}
 use Rattle.rules.specs.Bounds.{Capped, low}
 use Rattle.rule_laws.proofs.Bounds.{low-report, low-proposal}

@@ -4,7 +4,8 @@ use mathlib.Core.Bool.{Bool, true, false, _&&_}
 use borrow.Author.Tests.{le-leb, leb-true}
 use Rattle.laws.proofs.Fin.{and-in, and-l, and-r, true-false}
 use Rattle.rules.specs.State.{State}
-use Rattle.rules.specs.Refusals.{within, wellFormed, Event, refusalOf, ruleOf}
+use Rattle.number_checks.specs.Numbers.{within}
+use Rattle.rules.specs.Refusals.{wellFormed, Event, refusalOf, ruleOf}
 use Rattle.rule_laws.proofs.Ceiling.{ceiling}
 use Rattle.checks.specs.Checks.{madeWithin}
 

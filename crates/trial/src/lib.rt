@@ -8,7 +8,8 @@ use row::LOW;
 ghost use mathlib.Core.Path.{_≡_};
 ghost use mathlib.Core.Bool.{true};
 ghost use Rattle.rules.specs.Rules.{reportRule, proposalRule};
-ghost use Rattle.rules.specs.Refusals.{wellFormed, firstOf, proposalChecks, aReport, aProposal};
+ghost use Rattle.laws.specs.Checks.{firstOf};
+ghost use Rattle.rules.specs.Refusals.{wellFormed, proposalChecks, aReport, aProposal};
 ghost use Rattle.row.specs.Row.{stateOf, soundRow, lowRow};
 ghost use Rattle.trial.specs.Tried.{refusalFrom};
 

@@ -1,5 +1,6 @@
 use mathlib.Core.Path.{_≡_}
-use Rattle.rules.specs.Refusals.{firstOf, formChecks}
+use Rattle.laws.specs.Checks.{firstOf}
+use Rattle.rules.specs.Refusals.{formChecks}
 use Rattle.row.specs.Row.{stateOf}
 use Rattle.rule_laws.proofs.Checking.{checked-form, checked-sender, checked-11, checked-12, checked-none}
 use borrow.Author.Needs.{needs}

@@ -30,20 +30,20 @@ returns-4 c =
     form-9 (a .own) (a .p) (c .before .before .before .before .before .before .before .before .if1 .left) (c .before .before .before .before .before .if2 .left) (sym (c .before .before .before .before .wrong-number .ensures) ∙ c .before .before .before .if3 .left)
     (rw (c .before .serves2 .ensures, c .before .before .serves .ensures) at (c .if4 .taken))
 
-stray-used-requires : tie.Need-stray-used-requires
-stray-used-requires c κs = search needs
+stray-number-requires : tie.Need-stray-number-requires
+stray-number-requires c κs = search needs
 
 returns-5 : tie.Need-returns-5
 returns-5 c =
     let a = c .before .before .before .before .before .before .before .before .before .before .before .before .before .before .args in
     form-10 (a .own) (a .p) (c .before .before .before .before .before .before .before .before .before .before .before .if1 .left) (c .before .before .before .before .before .before .before .before .if2 .left) (sym (c .before .before .before .before .before .before .before .wrong-number .ensures) ∙ c .before .before .before .before .before .before .if3 .left)
-    (rw (c .before .before .before .before .serves2 .ensures, c .before .before .before .before .before .serves .ensures) at (c .before .before .before .if4 .left)) (sym (c .before .stray-used .ensures) ∙ c .if5 .taken)
+    (rw (c .before .before .before .before .serves2 .ensures, c .before .before .before .before .before .serves .ensures) at (c .before .before .before .if4 .left)) (sym (c .before .stray-number .ensures) ∙ c .if5 .taken)
 
 returns-6 : tie.Need-returns-6
 returns-6 c =
     let a = c .before .before .before .before .before .before .before .before .before .before .before .before .before .before .args in
     form-0 (a .own) (a .p) (c .before .before .before .before .before .before .before .before .before .before .before .if1 .left) (c .before .before .before .before .before .before .before .before .if2 .left) (sym (c .before .before .before .before .before .before .before .wrong-number .ensures) ∙ c .before .before .before .before .before .before .if3 .left)
-    (rw (c .before .before .before .before .serves2 .ensures, c .before .before .before .before .before .serves .ensures) at (c .before .before .before .if4 .left)) (sym (c .before .stray-used .ensures) ∙ c .if5 .left)
+    (rw (c .before .before .before .before .serves2 .ensures, c .before .before .before .before .before .serves .ensures) at (c .before .before .before .if4 .left)) (sym (c .before .stray-number .ensures) ∙ c .if5 .left)
 
 pub form-spec : {M : Type 1} → statement M
 form-spec =
@@ -56,6 +56,6 @@ form-spec =
     serves-requires
     serves-requires-2
     returns-4
-    stray-used-requires
+    stray-number-requires
     returns-5
     returns-6)

@@ -4,7 +4,8 @@ use mathlib.Core.Path.{_≡_, sym, _∙_}
 use borrow.Author.Tests.{not-true, not-false}
 use lib.ListN.{length}
 use Rattle.rules.specs.Rules.{tests, proposalRule}
-use Rattle.rules.specs.Refusals.{aProposal, limit}
+use Rattle.number_checks.specs.Numbers.{limit}
+use Rattle.rules.specs.Refusals.{aProposal}
 use Rattle.row.specs.Row.{stateOf}
 use Rattle.parts.specs.Bounds.{early}
 use Rattle.parts.specs.Parts.{receiving}

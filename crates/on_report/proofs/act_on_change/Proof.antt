@@ -7,7 +7,7 @@ use Rattle.seats.specs.declared.SeatSet.{SeatSet}
 use Rattle.offices.specs.Offices.{serves}
 use Rattle.rules.specs.State.{State}
 use Rattle.rules.specs.Rules.{Outcome, netAfter, withNet, changeRule}
-use Rattle.rules.specs.Refusals.{limit}
+use Rattle.number_checks.specs.Numbers.{limit}
 use Rattle.rule_laws.proofs.Steps.{well-facts}
 use Rattle.rule_laws.proofs.Sizes.{change-size}
 use Rattle.records.specs.declared.Report.{Report}

@@ -5,7 +5,7 @@ use mathlib.Core.Bool.{true}
 use Prim.Native.Nat.{_+_}
 use Rattle.rules.specs.State.{State}
 use Rattle.rules.specs.Rules.{Outcome, andThen, seated, opens, proposesFast, tests}
-use Rattle.rules.specs.Refusals.{limit}
+use Rattle.number_checks.specs.Numbers.{limit}
 use Rattle.rule_laws.proofs.Recipients.{opens-seated}
 use Rattle.row.specs.Row.{stateOf}
 use Rattle.parts.specs.Bounds.{early, reach, Bounded}

@@ -4,7 +4,7 @@ use Prim.Native.Nat.{_+_, _-_, _≤_}
 use native.Mathlib.Omega.{arith}
 use lib.ListN.{getD}
 use Rattle.laws.specs.Fin.{allb}
-use Rattle.rules.specs.Refusals.{within}
+use Rattle.number_checks.specs.Numbers.{within}
 use Rattle.laws.proofs.Loops.{all-one}
 use Rattle.row_checks.proofs.are_within.Statement.{statement}
 use Rattle.row_checks.proofs.are_within.Tie as tie

@@ -4,10 +4,10 @@ use native.Mathlib.Omega.{arith}
 use lib.Dec.{ltb}
 use lib.ListN.{getD}
 use Rattle.laws.specs.Fin.{anyb}
-use Rattle.rules.specs.Refusals.{limit}
+use Rattle.number_checks.specs.Numbers.{limit}
 use Rattle.laws.proofs.Loops.{any-none, any-one}
-use Rattle.form_checks.proofs.above_limit.Statement.{statement}
-use Rattle.form_checks.proofs.above_limit.Tie as tie
+use Rattle.number_checks.proofs.above_limit.Statement.{statement}
+use Rattle.number_checks.proofs.above_limit.Tie as tie
 
 abbrev Inv-loop : tie.InvT-loop
 Inv-loop numbers above₀ o₀ above o = (o ≤ 16) × (above ≡ anyb o (λ k. ltb limit (getD numbers k 0)))

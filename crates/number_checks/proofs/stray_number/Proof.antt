@@ -8,14 +8,14 @@ use borrow.Author.Needs.{needs}
 use Rattle.laws.specs.Fin.{anyb}
 use Rattle.offices.specs.Offices.{serves}
 use Rattle.laws.proofs.Loops.{any-none, any-one}
-use Rattle.form_checks.proofs.stray_used.Statement.{statement}
-use Rattle.form_checks.proofs.stray_used.Tie as tie
+use Rattle.number_checks.proofs.stray_number.Statement.{statement}
+use Rattle.number_checks.proofs.stray_number.Tie as tie
 
 abbrev Inv-loop : tie.InvT-loop
-Inv-loop members used stray₀ o₀ stray o = (o ≤ 16) × (stray ≡ anyb o (λ k. not (serves (members .bits) k) && not (eqb (getD used k 0) 0)))
+Inv-loop members numbers stray₀ o₀ stray o = (o ≤ 16) × (stray ≡ anyb o (λ k. not (serves (members .bits) k) && not (eqb (getD numbers k 0) 0)))
 
 abbrev μ-loop : tie.MeasureT-loop
-μ-loop members used stray₀ o₀ stray o = 16 - o
+μ-loop members numbers stray₀ o₀ stray o = 16 - o
 
 loop-holds : tie.Need-loop-holds Inv-loop μ-loop
 loop-holds c = (omega arith, any-none _)
@@ -49,6 +49,6 @@ returns c =
     let e : l .o ≡ 16 = omega arith in
     rw e at (l .inv .1)
 
-pub stray-used-spec : {M : Type 1} → statement M
-stray-used-spec =
+pub stray-number-spec : {M : Type 1} → statement M
+stray-number-spec =
     tie.close (tie.spec Inv-loop μ-loop loop-holds cast-serves serves-requires mul-stray array-read-stray add-o loop-less loop-again returns)

@@ -1,0 +1,29 @@
+-- What the two readers tell of bytes: the notices' reader first, and the views' where the mark is not a notice's.
+use mathlib.Core.Path.{_≡_, sym, ap, _∙_}
+use mathlib.Core.List.{List}
+use Prim.Native.Nat.{ℕ}
+use Rattle.notices.specs.declared.NoticeRead.{NoticeRead}
+use Rattle.notices.specs.Read.{readNotice}
+use Rattle.notices.proofs.Reading.{notice-refusal, notice-decoded}
+use Rattle.views.specs.declared.ViewRead.{ViewRead}
+use Rattle.views.specs.Read.{readView}
+use Rattle.views.proofs.Reading.{view-refusal, view-decoded}
+use Rattle.desk_checks.specs.SeatChecks.{aNotice, aView}
+use Rattle.desk.proofs.Laws.{SeatRead, by-notice, by-view}
+
+module _ (b : List ℕ) where
+  pub notice-read : (r : NoticeRead) → r ≡ readNotice b → (r .refusal ≡ 4 → ⊥) → SeatRead b (r .refusal) (aNotice (r .notice))
+  notice-read r e h =
+      let t = by-notice b (λ f. h (ap (λ (x : NoticeRead). x .refusal) e ∙ notice-refusal b ∙ f)) in
+      rw e (record {
+        number = t .number ∙ sym (notice-refusal b);
+        is = λ z. t .is (sym (notice-refusal b) ∙ z) ∙ ap aNotice (sym (notice-decoded b z));
+      })
+
+  pub view-read : (r : ViewRead) → r ≡ readView b → readNotice b .refusal ≡ 4 → SeatRead b (r .refusal) (aView (r .view))
+  view-read r e h =
+      let t = by-view b (sym (notice-refusal b) ∙ h) in
+      rw e (record {
+        number = t .number ∙ sym (view-refusal b);
+        is = λ z. t .is (sym (view-refusal b) ∙ z) ∙ ap aView (sym (view-decoded b z));
+      })

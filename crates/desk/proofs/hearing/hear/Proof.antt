@@ -1,0 +1,67 @@
+use mathlib.Core.Path.{sym, ap, _∙_}
+use Rattle.notices.specs.declared.NoticeRead.{NoticeRead}
+use Rattle.desk_checks.specs.SeatChecks.{aNotice}
+use Rattle.desk.specs.Hearing.{afterRecord}
+use Rattle.desk.proofs.Laws.{SeatRead, hear-6, hear-unread, hear-refused, hear-accepted}
+use Rattle.desk.proofs.Readers.{notice-read}
+use borrow.Author.Needs.{needs}
+use Rattle.desk.proofs.hearing.hear.Statement.{statement}
+use Rattle.desk.proofs.hearing.hear.Tie as tie
+
+-- what the reader of notices told, where the mark is a notice's
+read : (c : tie.Else2) → let a = c .before .before .before .before .before .before .args in let r = c .before .before .read-notice .result in SeatRead (a .bytes .now) (r .refusal) (aNotice (r .notice))
+read c = notice-read _ (c .before .before .read-notice .result) (c .before .before .read-notice .ensures) (c .if2 .left)
+
+cast-if1 : tie.Need-cast-if1
+cast-if1 c = search needs
+
+refuse-requires : tie.Need-refuse-requires
+refuse-requires c κs = search needs
+
+returns : tie.Need-returns
+returns c = c .refuse .ensures ∙ sym (hear-6 _ _ (c .before .if1 .taken))
+
+read-notice-requires : tie.Need-read-notice-requires
+read-notice-requires c κs = search needs
+
+hear-view-requires : tie.Need-hear-view-requires
+hear-view-requires c κs = (c .before .before .before .if1 .left, sym (ap (λ (r : NoticeRead). r .refusal) (c .before .before .read-notice .ensures)) ∙ c .if2 .taken)
+
+returns-2 : tie.Need-returns-2
+returns-2 c = search needs
+
+refuse-requires-2 : tie.Need-refuse-requires-2
+refuse-requires-2 c κs = search needs
+
+returns-3 : tie.Need-returns-3
+returns-3 c = c .refuse2 .ensures ∙ sym (hear-unread _ _ (c .before .before .before .before .before .before .if1 .left) (read (c .before .before .before)) (c .before .if3 .taken))
+
+notice-refusal-requires : tie.Need-notice-refusal-requires
+notice-refusal-requires c κs = search needs
+
+refuse-requires-3 : tie.Need-refuse-requires-3
+refuse-requires-3 c κs = search needs
+
+returns-4 : tie.Need-returns-4
+returns-4 c = c .refuse3 .ensures ∙ sym (hear-refused _ _ (c .before .before .before .before .before .before .before .before .if1 .left) (read (c .before .before .before .before .before)) (c .before .before .before .if3 .left) _ (c .before .before .notice-refusal .ensures) (c .before .if4 .taken))
+
+returns-5 : tie.Need-returns-5
+unfolding afterRecord
+returns-5 c = sym (hear-accepted _ _ (c .before .before .before .before .before .before .before .if1 .left) (read (c .before .before .before .before)) (c .before .before .if3 .left) (sym (c .before .notice-refusal .ensures) ∙ c .if4 .left))
+
+pub hear-spec : {M : Type 1} → statement M
+hear-spec =
+    tie.close
+    (tie.spec
+    cast-if1
+    refuse-requires
+    returns
+    read-notice-requires
+    hear-view-requires
+    returns-2
+    refuse-requires-2
+    returns-3
+    notice-refusal-requires
+    refuse-requires-3
+    returns-4
+    returns-5)

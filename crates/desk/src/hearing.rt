@@ -1,0 +1,73 @@
+// Taking a start notice or a view.
+use crate::Heard;
+use desk_checks::Desk;
+use desk_checks::notice_refusal;
+use desk_checks::view_refusal;
+use notices::read_notice;
+use seats::SEATS;
+use views::read_view;
+ghost use mathlib.Core.Path.{_≡_};
+ghost use Prim.Native.Nat.{_<_};
+ghost use Rattle.notices.specs.Read.{readNotice};
+ghost use Rattle.seats.specs.Seats.{seatCount};
+ghost use Rattle.desk.specs.Hearing.{hearOf};
+
+// The state handed in comes back with the number.
+fn refuse(desk: Desk, refusal: u8) -> Heard
+    ensures { λ r. ⌜ r ≡ record { refusal = refusal; desk = desk } ⌝ }
+{
+    Heard { refusal, desk }
+}
+
+// Bytes that have no notice's mark: the reader of views has the word.
+fn hear_view(desk: Desk, bytes: &[u8]) -> Heard
+    requires { ⌜ (desk .seat < seatCount) × (readNotice (now bytes) .refusal ≡ 4) ⌝ }
+    ensures { λ r. ⌜ r ≡ hearOf desk (now (bytes .entry)) ⌝ }
+{
+    let read = read_view(bytes);
+    if read.refusal != 0 {
+        return refuse(desk, read.refusal);
+    }
+    let refusal = view_refusal(desk, read.view);
+    if refusal != 0 {
+        return refuse(desk, refusal);
+    }
+    Heard {
+        refusal: 0,
+        desk: Desk {
+            seat: desk.seat,
+            start: desk.start,
+            view: read.view.number,
+            changing: false,
+        },
+    }
+}
+
+// A start notice or a view, as its bytes. 4 from the reader of notices says that they have another mark.
+pub fn hear(desk: Desk, bytes: &[u8]) -> Heard
+    ensures { λ r. ⌜ r ≡ hearOf desk (now (bytes .entry)) ⌝ }
+{
+    if (SEATS as u32) <= desk.seat {
+        return refuse(desk, 6);
+    }
+    let told = read_notice(bytes);
+    if told.refusal == 4 {
+        return hear_view(desk, bytes);
+    }
+    if told.refusal != 0 {
+        return refuse(desk, told.refusal);
+    }
+    let found = notice_refusal(desk, told.notice);
+    if found != 0 {
+        return refuse(desk, found);
+    }
+    Heard {
+        refusal: 0,
+        desk: Desk {
+            seat: desk.seat,
+            start: told.notice.start,
+            view: desk.view,
+            changing: true,
+        },
+    }
+}

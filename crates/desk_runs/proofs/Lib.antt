@@ -1,0 +1,4 @@
+pub mod Days
+pub mod Follows
+pub mod Runs
+mod Taking

@@ -1,0 +1,83 @@
+-- Over every run of one office from fresh: a fresh seat of the office accepts every notice and view whose members hold it, in the order sent,
+-- whether or not it left and came back in between.
+use mathlib.Core.Path.{_≡_, refl}
+use mathlib.Core.List.{List}
+use mathlib.Core.Logic.{_⊎_, inl, inr}
+use Prim.Native.Nat.{ℕ, _<_}
+use native.Mathlib.Omega.{arith}
+use lib.Dec.{eqb}
+use Rattle.laws.specs.Big.{Below}
+use Rattle.laws.specs.Lists.{Every}
+use Rattle.laws.proofs.Fin.{if-cases}
+use Rattle.seats.specs.Seats.{seatCount}
+use Rattle.offices.specs.Offices.{officeOf}
+use Rattle.records.specs.Layout.{reportMark, valueOf, markOf}
+use Rattle.records.proofs.RoundTrip.{report-fits}
+use Rattle.rules.specs.State.{State}
+use Rattle.rules.specs.Rules.{Written, fresh}
+use Rattle.rules.specs.Refusals.{eventOf, Result, stepOf}
+use Rattle.rule_laws.proofs.Parts.{fresh-reads}
+use Rattle.rule_laws.proofs.Steps.{Refused, Accepts, step-cases, step-accepts}
+use Rattle.runs.specs.Office.{Input, answerTo, nextState, stateAfter, logOf, sentIn}
+use Rattle.runs.proofs.OfficeRuns.{Beside, beside-run}
+use Rattle.desk_checks.specs.declared.Desk.{Desk}
+use Rattle.desk.specs.Hearing.{freshDesk}
+use Rattle.desk_runs.specs.Sent.{sentTo, hearings, deskAfter}
+use Rattle.desk_runs.proofs.Taking.{Hears, at-end, hears-then, all-accepted, desk-then}
+use Rattle.desk_runs.proofs.Follows.{Follows, FitsEvent, event-follows}
+
+-- what is handed in is bytes
+abbrev pub Bytes : Input → Type 0
+Bytes h = Below 256 (h .bytes)
+
+module _ (seat : ℕ) (lt : seat < seatCount) where
+  -- a seat beside the office that it follows
+  abbrev Beside-it : Desk → List Written → State → Type 0
+  Beside-it = Beside (Hears seat) (Follows seat lt)
+
+  sets-fit : (b : List ℕ) → Below 256 b → FitsEvent seat lt (eventOf b)
+  unfolding eventOf
+  sets-fit b h = if-cases (FitsEvent seat lt) (eqb (markOf b) (valueOf reportMark)) _ _ (λ e. report-fits b h) (λ e. tt)
+
+  -- what an answer sends, accepted or not
+  next-heard : (d : Desk) (s : State) (h : Input) → Bytes h → Follows seat lt d s → Beside-it d (answerTo s h .written) (nextState s h)
+  unfolding answerTo
+  next-heard d s h y f = go (step-cases s (h .bytes) (h .room))
+    where
+      Is : Result → Type 0
+      Is r = Beside-it d (r .written) (r .state)
+
+      go : Refused s (stepOf s (h .bytes) (h .room)) ⊎ Accepts s (h .bytes) (h .room) → Is (stepOf s (h .bytes) (h .room))
+      go (inl r) = rw (r .is) (record { then = d; told = at-end; holds = f })
+      go (inr a) =
+          rw (step-accepts s (h .bytes) (h .room) a)
+          (event-follows seat lt d s (eventOf (h .bytes)) (sets-fit (h .bytes) y) (a .acts .passes) (a .acts .within) f)
+
+  -- from any state that the seat follows; a fresh start is not needed
+  pub run-heard : (d : Desk) (s : State) (hs : List Input) → Every Bytes hs → Follows seat lt d s → Beside-it d (sentIn (logOf s hs)) (stateAfter s hs)
+  run-heard = beside-run (Hears seat) (Follows seat lt) (λ d. at-end) (λ c d e a b. hears-then seat) Bytes next-heard
+
+  -- a fresh seat follows a fresh office
+  fresh-follows : Follows seat lt (freshDesk seat) (fresh (officeOf seat))
+  unfolding freshDesk
+  fresh-follows =
+      let r = fresh-reads (officeOf seat) in
+      record {
+        behind = record { is-seat = refl; office = r .own-is; fits = let x = r .net-is in omega arith; start = omega arith; view = omega arith };
+        changing = λ y. absurd (y (r .mode-is));
+        own-start = λ y. absurd (y (r .mode-is));
+      }
+
+  -- the seat refuses nothing that it is sent, and follows the office at the end
+  module _ (hs : List Input) (y : Every Bytes hs) where
+    abbrev sent : List Written
+    sent = sentTo seat (sentIn (logOf (fresh (officeOf seat)) hs))
+
+    abbrev heard : Beside-it (freshDesk seat) (sentIn (logOf (fresh (officeOf seat)) hs)) (stateAfter (fresh (officeOf seat)) hs)
+    heard = run-heard (freshDesk seat) (fresh (officeOf seat)) hs y fresh-follows
+
+    pub every-accepted : Every (λ h. h .refusal ≡ 0) (hearings (freshDesk seat) sent)
+    every-accepted = all-accepted seat (heard .told)
+
+    pub desk-follows : Follows seat lt (deskAfter (freshDesk seat) sent) (stateAfter (fresh (officeOf seat)) hs)
+    desk-follows = rw (desk-then seat (heard .told)) (heard .holds)
