@@ -1,8 +1,8 @@
 /* What a C program asks of the room server, with plain numbers and buffers. Link with libroom.a.
  *
  * Nothing checks the pointers: none may be NULL, even where its length is 0; each must point at as many elements as the
- * length beside it says; a `uint32_t *` must be aligned for uint32_t; no two buffers of one call may overlap; and no other
- * thread may use a buffer during the call. */
+ * length beside it says, a `uint64_t *` at one; a `uint32_t *` must be aligned for uint32_t, a `uint64_t *` for uint64_t; no
+ * two buffers of one call may overlap; and no other thread may use a buffer during the call. */
 #ifndef ROOM_H
 #define ROOM_H
 
@@ -85,6 +85,42 @@ uint8_t room_seat_fresh(uint8_t seat, uint32_t *desk, size_t words);
  * number in word 1 and 1 in word 3, a view that is accepted its number in word 2 and 0 in word 3; the other words stay. The
  * record is only read. */
 uint8_t room_seat_hear(uint32_t *desk, size_t words, const uint8_t *record, size_t length);
+
+/* The length of a sync record, by which a desk tells the others which view it comes from: mark 53 59, one byte seat, four bytes
+ * start number, four bytes previous view number, most significant byte first. */
+#define ROOM_SYNC_BYTES 11
+
+/* Makes the sync record of a seat in the first ROOM_SYNC_BYTES bytes of `out`, whose length is `room`: word 0 is the seat, word 1
+ * the start number, word 2 the previous view number. It is for the moment after each start notice that the seat accepts.
+ *   11  the record is made
+ *   0   `words` is not ROOM_SEAT_WORDS, or word 0 is above 63, or `room` is under 11; no byte is touched
+ * Words 1 and 2 are written as they stand, also above L, where whoever reads the record refuses it by 8; word 3 is not looked at.
+ * No byte behind the 11 is touched. The words are only read. */
+size_t room_seat_sync(const uint32_t *desk, size_t words, uint8_t *out, size_t room);
+
+/* The longest sheet: 512 sync records end to end. */
+#define ROOM_SHEET_BYTES 5632
+
+/* Who came along from the old view, by a sheet of sync records, a view and one's own previous view number. A record of a seat
+ * counts if its start number is the one that the view has for the seat's office, seat / 4; where more than one does, the first on
+ * the sheet counts. One that does not count is not bad. The asker need not be a member. The answer is 256 x a value + the
+ * refusal or 0:
+ *   answer % 256  4   the view has under two bytes, or its mark is not 56 57 (also that of a start notice)
+ *                 5   its length is not 78
+ *                 8   its number, one of its sixteen start numbers or `previous` is above L, 2,000,000,000
+ *                 10  it has a start number that is not 0 for an office without a seat in the members
+ *                 17  `sheet_length` is above ROOM_SHEET_BYTES or no multiple of ROOM_SYNC_BYTES
+ *                 at the first record from the front that has one of these, of a seat outside the members too:
+ *                 4   its mark is not 53 59
+ *                 6   its seat is above 63
+ *                 8   its start number or its previous view number is above L
+ *                 0   none of these; the first that applies is returned
+ *   answer / 256  0         with a refusal; or every member has a record that counts, and the set of those whose record names
+ *                           `previous` is put into *members
+ *                 1 to 64   1 + the lowest member seat that has no record that counts
+ * *members is not touched unless the answer is 0. The sheet and the view are only read. */
+uint32_t room_came_along(const uint8_t *sheet, size_t sheet_length, const uint8_t *view, size_t view_length, uint32_t previous,
+                         uint64_t *members);
 
 #ifdef __cplusplus
 }

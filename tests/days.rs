@@ -1,7 +1,11 @@
 // The worked days that document 01 does not star, the reports that change nothing, the edges of lengths and offices, the order of the refusals,
 // and where document 01 decides against Moshe, by the calls for C. A try is one call: its refusal, its count, every byte of the output, and where
 // it is refused or does nothing every word of the state. What is expected is written from documents 01 and 02; unwritten bytes are 170, as they
-// were lent. Then a seat's own day and its refusals: a try is one record heard, its answer and the four words of the seat after it.
+// were lent. Then a seat's own day and its refusals: a try is one record heard, its answer and the four words of the seat after it. Worked sheets
+// come last.
+#[path = "common/worked_sheets.rs"]
+mod worked_sheets;
+
 #[link(name = "room", kind = "static")]
 extern "C" {
     fn room_fresh(office: u8, state: *mut u32, words: usize) -> u8;
@@ -433,6 +437,7 @@ fn main() {
     seat_edges(&mut tally);
     seat_refusals(&mut tally);
     seat_order(&mut tally);
+    worked_sheets::all(&mut tally);
     println!("{} passed, {} failed", tally.passed, tally.failed);
     std::process::exit((tally.failed != 0) as i32);
 }

@@ -1,10 +1,15 @@
 // The calls for C that make a seat and hand it a record, beside the model of change request 3: every answer, every word and every byte. Each
 // case is a kind of input; it passes when the two agree on all of its inputs.
+#[path = "common/choice.rs"]
+mod choice;
+#[allow(dead_code)]
 #[path = "common/hearing.rs"]
 mod hearing;
 #[allow(dead_code)]
 #[path = "common/inputs.rs"]
 mod inputs;
+#[path = "common/lent.rs"]
+mod lent;
 #[allow(dead_code)]
 #[path = "common/model.rs"]
 mod model;
@@ -20,15 +25,18 @@ mod repeats;
 mod rows;
 #[path = "common/seat.rs"]
 mod seat;
+#[path = "common/tally.rs"]
+mod tally;
 #[path = "common/verdicts.rs"]
 mod verdicts;
 
+use choice::choice;
 use hearing::{change, damaged, Day};
 use inputs::some;
+use lent::{around, AROUND, BYTE, WORD};
 use model::{has_seat, View, L};
 use random::Random;
-use seat::{members, Reason, Row, REASONS, WORDS};
-use verdicts::Verdicts;
+use seat::{members, notice, Reason, Row, REASONS, WORDS};
 
 #[link(name = "room", kind = "static")]
 extern "C" {
@@ -36,17 +44,9 @@ extern "C" {
     fn room_seat_hear(desk: *mut u32, words: usize, record: *const u8, length: usize) -> u8;
 }
 
-// Words and bytes that stand around what is lent, and must stay.
-const AROUND: usize = 16;
-const WORD: u32 = 0xa5c3_96e7;
-const BYTE: u8 = 0xb7;
-
-fn around<T: Copy>(lent: &[T], edge: T) -> Vec<T> {
-    [&[edge; AROUND][..], lent, &[edge; AROUND]].concat()
-}
-
 // What was met, by the model.
 struct Reached {
+    records: u64,
     answers: [u64; 17],
     // a reason that alone has the number answered
     alone: [u64; REASONS.len()],
@@ -60,6 +60,7 @@ struct Reached {
 
 impl Reached {
     fn count(&mut self, row: &[u32], record: &[u8]) {
+        self.records += 1;
         let reasons = seat::reasons(row, record);
         let answer = reasons.first().map_or(0, |r| r.number());
         self.answers[answer as usize] += 1;
@@ -95,26 +96,10 @@ impl Reached {
     }
 }
 
-struct Tally {
-    reached: Reached,
-    // seats made and records heard
-    inputs: u64,
-    records: u64,
-    wrong: u64,
-    verdicts: Verdicts,
-}
+// Inputs are seats made and records heard.
+type Tally = tally::Tally<Reached>;
 
 impl Tally {
-    fn compared(&mut self, same: bool, what: impl FnOnce() -> String) {
-        self.inputs += 1;
-        if !same {
-            self.wrong += 1;
-            if self.wrong <= 5 {
-                println!("{}", what());
-            }
-        }
-    }
-
     // A fresh seat over some words.
     fn make(&mut self, seat: u8, row: &mut [u32]) {
         let mut lent = around(row, WORD);
@@ -126,7 +111,6 @@ impl Tally {
 
     // One record on a row, which is then as the model leaves it: what the call answered.
     fn hear(&mut self, row: &mut [u32], record: &[u8]) -> u8 {
-        self.records += 1;
         self.reached.count(row, record);
         let (mut lent, mut bytes) = (around(row, WORD), around(record, BYTE));
         let before = row.to_vec();
@@ -152,18 +136,6 @@ impl Tally {
         let mut row = [WORD; WORDS];
         self.make(seat as u8, &mut row);
         row
-    }
-
-    fn case(&mut self, name: &str, run: impl FnOnce(&mut Tally)) {
-        let (inputs, wrong) = (self.inputs, self.wrong);
-        run(self);
-        println!("{name}: {} compared", self.inputs - inputs);
-        self.verdicts.check(name, self.wrong == wrong && self.inputs > inputs);
-    }
-
-    fn often(&mut self, what: &str, n: u64, least: u64) {
-        println!("  {what}: {n}");
-        self.verdicts.check(&format!("{what}: at least {least}"), n >= least);
     }
 }
 
@@ -401,10 +373,6 @@ fn reached(t: &mut Tally) {
     }
 }
 
-fn notice(number: u32, members: u64) -> Vec<u8> {
-    [&b"SC"[..], &number.to_be_bytes(), &members.to_be_bytes()].concat()
-}
-
 // A view with the start numbers of two offices; the others' are 0.
 fn view(number: u32, members: u64, starts: [(usize, u32); 2]) -> Vec<u8> {
     let mut record = [&b"VW"[..], &number.to_be_bytes(), &members.to_be_bytes(), &[0; 64]].concat();
@@ -412,13 +380,6 @@ fn view(number: u32, members: u64, starts: [(usize, u32); 2]) -> Vec<u8> {
         record[14 + 4 * office..18 + 4 * office].copy_from_slice(&start.to_be_bytes());
     }
     record
-}
-
-// Takes a choice off the front of a case's number.
-fn choice<T: Copy>(case: &mut usize, of: &[T]) -> T {
-    let at = *case % of.len();
-    *case /= of.len();
-    of[at]
 }
 
 const EDGES: [u32; 8] = [0, 1, 2, 3, L - 1, L, L + 1, u32::MAX];
@@ -446,8 +407,8 @@ fn edges(t: &mut Tally) {
 }
 
 fn main() {
-    let none = Reached { answers: [0; 17], alone: [0; REASONS.len()], orders: [[0; 17]; 17], seats: [[0; 3]; 64], offices: [[0; 3]; 16] };
-    let mut tally = Tally { reached: none, inputs: 0, records: 0, wrong: 0, verdicts: Verdicts::default() };
+    let (alone, orders) = ([0; REASONS.len()], [[0; 17]; 17]);
+    let mut tally = Tally::new(Reached { records: 0, answers: [0; 17], alone, orders, seats: [[0; 3]; 64], offices: [[0; 3]; 16] });
     let t = &mut tally;
 
     making(t);
@@ -457,10 +418,10 @@ fn main() {
     other_offices(t);
     changed_rows(t);
     lengths(t);
-    t.verdicts.check("half a million records", t.records >= 500_000);
+    t.verdicts.check("half a million records", t.reached.records >= 500_000);
     reached(t);
     edges(t);
 
-    println!("seat: {} inputs compared, {} of them records heard", tally.inputs, tally.records);
+    println!("seat: {} inputs compared, {} of them records heard", tally.inputs, tally.reached.records);
     tally.verdicts.end();
 }

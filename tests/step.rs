@@ -3,6 +3,9 @@
 #[path = "common/inputs.rs"]
 mod inputs;
 #[allow(dead_code)]
+#[path = "common/lent.rs"]
+mod lent;
+#[allow(dead_code)]
 #[path = "common/model.rs"]
 mod model;
 #[path = "common/play.rs"]
@@ -18,6 +21,7 @@ mod rows;
 mod verdicts;
 
 use inputs::{a_play, change, some};
+use lent::{AROUND, BYTE, WORD};
 use model::{offices, report, Proposal, FAST, L, ROOM, SLOW};
 use random::Random;
 use repeats::{repeat, Reports, KINDS};
@@ -29,11 +33,6 @@ extern "C" {
     fn room_fresh(office: u8, state: *mut u32, words: usize) -> u8;
     fn room_step(state: *mut u32, words: usize, record: *const u8, length: usize, out: *mut u8, room: usize) -> u32;
 }
-
-// Words and bytes that stand around what is lent, and must stay.
-const AROUND: usize = 16;
-const WORD: u32 = 0xa5c3_96e7;
-const BYTE: u8 = 0xb7;
 
 // Each refusal, and 0, as often as it came.
 struct Reached([u64; 14]);

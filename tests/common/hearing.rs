@@ -1,6 +1,7 @@
-// What a seat is tried with: the days of an office, damaged records, and rows with a word changed.
+// What seats are tried with: the days of an office and of a room, damaged records, and rows with a word changed.
 use crate::inputs::{handed, some};
 use crate::model::{mark_length, Office, L, ROOM};
+use crate::play::{Habits, Play};
 use crate::random::Random;
 use crate::seat::{members, number, view, Row};
 
@@ -11,10 +12,8 @@ pub struct Day {
 }
 
 impl Day {
-    // With seats of this office and of at most three others, so that they often agree.
     pub fn new(random: &mut Random, office: usize, records: usize) -> Day {
-        let pool = (0..random.below(4)).fold(15 << (4 * office), |set, _| set | 15 << (4 * random.below(16)));
-        let pool = pool & (random.next() | random.next());
+        let pool = some_pool(random, office);
         let (mut state, mut out) = (Office::fresh(office), Vec::new());
         let event = |record: Vec<u8>| {
             state.step(&record, ROOM, &mut out);
@@ -30,6 +29,20 @@ impl Day {
     pub fn records(&self) -> Vec<&[u8]> {
         self.events.iter().flat_map(|(_, records)| records).map(|record| &record[..]).collect()
     }
+}
+
+// Seats of an office and of at most three others, so that they often agree.
+fn some_pool(random: &mut Random, office: usize) -> u64 {
+    let pool = (0..random.below(4)).fold(15 << (4 * office), |set, _| set | 15 << (4 * random.below(16)));
+    pool & (random.next() | random.next())
+}
+
+// A play of several offices: the notices and views of all, each with its office, in the order written. Forged proposals come to the one given.
+pub fn told(random: &mut Random, habits: Habits, office: usize, records: usize) -> Vec<(usize, Vec<u8>)> {
+    let pool = some_pool(random, office);
+    let (mut play, mut all) = (Play::new(Random(random.next() | 1), habits, pool, office), Vec::new());
+    play.go_telling(records, |office, written| all.extend(to_seats(written).into_iter().map(|record| (office, record))));
+    all
 }
 
 // The notices and views among what is written; proposals go to other offices.

@@ -4,7 +4,7 @@ use crate::play::{Habits, Play};
 use crate::random::Random;
 use crate::rows::{self, WORDS};
 
-fn habits(random: &mut Random) -> Habits {
+pub fn habits(random: &mut Random) -> Habits {
     let (forged, damaged) = match random.below(3) {
         0 => (0, 0),
         1 => (100 + random.below(400), random.below(60)),

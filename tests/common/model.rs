@@ -19,7 +19,7 @@ pub fn offices(set: u64) -> impl Iterator<Item = usize> {
 
 // Records
 
-fn number(record: &[u8], at: usize) -> u32 {
+pub fn number(record: &[u8], at: usize) -> u32 {
     u32::from_be_bytes(record[at..at + 4].try_into().unwrap())
 }
 
@@ -94,6 +94,12 @@ impl View {
         out.extend(self.number.to_be_bytes());
         out.extend(self.members.to_be_bytes());
         put_sixteen(out, &self.starts);
+    }
+
+    pub fn bytes(&self) -> Vec<u8> {
+        let mut out = Vec::new();
+        self.write(&mut out);
+        out
     }
 }
 

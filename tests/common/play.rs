@@ -31,6 +31,8 @@ pub struct Play {
     reports: Vec<VecDeque<(u64, u64)>>,
     // the last report of each office that was no repeat
     last: Vec<Vec<u8>>,
+    // the office of the last event, and what it wrote
+    at: usize,
     out: Vec<u8>,
     pub input: Vec<u8>,
     pub records: usize,
@@ -47,6 +49,7 @@ impl Play {
             links: vec![VecDeque::new(); 256],
             reports: vec![VecDeque::new(); 16],
             last: vec![Vec::new(); 16],
+            at: kept,
             out: Vec::new(),
             input: vec![kept as u8],
             records: 0,
@@ -60,10 +63,19 @@ impl Play {
 
     // Events until the input has so many records.
     pub fn go(&mut self, records: usize) {
+        self.go_telling(records, |_, _| ());
+    }
+
+    // The same; each office that writes something is told of, with what it writes.
+    pub fn go_telling(&mut self, records: usize, mut tell: impl FnMut(usize, &[u8])) {
         let first = self.some_seats() | 1 << (4 * self.kept);
         self.tell_all(first, 0);
         while self.records < records {
+            self.out.clear();
             self.event();
+            if !self.out.is_empty() {
+                tell(self.at, &self.out);
+            }
         }
     }
 
@@ -166,6 +178,7 @@ impl Play {
         if record.len() == 18 && !is_repeat(self.offices[to].net, record) {
             self.last[to] = record.to_vec();
         }
+        self.at = to;
         self.offices[to].step(record, ROOM, &mut self.out);
         let mut rest = &self.out[..];
         while !rest.is_empty() {

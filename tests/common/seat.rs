@@ -63,6 +63,10 @@ pub fn members(record: &[u8]) -> u64 {
     set(record, 6)
 }
 
+pub fn notice(number: u32, members: u64) -> Vec<u8> {
+    [&b"SC"[..], &number.to_be_bytes(), &members.to_be_bytes()].concat()
+}
+
 pub fn view(record: &[u8]) -> View {
     let starts = std::array::from_fn(|o| u32::from_be_bytes(record[14 + 4 * o..18 + 4 * o].try_into().unwrap()));
     View { number: number(record), members: members(record), starts }

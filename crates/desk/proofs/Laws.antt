@@ -1,5 +1,5 @@
 -- What a seat answers, at each of the exits: 6; 4 and 5; a reason of the record; and an accepted record.
-use mathlib.Core.Path.{_≡_}
+use mathlib.Core.Path.{_≡_, refl}
 use mathlib.Core.List.{List}
 use Prim.Native.Nat.{ℕ, _≤_, _<_}
 use native.Mathlib.Omega.{arith}
@@ -81,3 +81,16 @@ refusal-keeps d b n = go (ℕ-discrete (firstOf (hearChecks d b)) 0) n
     go : Dec (firstOf (hearChecks d b) ≡ 0) → (hearOf d b .refusal ≡ 0 → ⊥) → hearOf d b .desk ≡ d
     go (yes z) n = absurd (n (rw z))
     go (no m) n = rw (ne-eqb (firstOf (hearChecks d b)) 0 m)
+
+-- a seat stays the same seat
+pub seat-stays : (d : Desk) (b : List ℕ) → hearOf d b .desk .seat ≡ d .seat
+unfolding hearOf afterRecord
+seat-stays d b = go (ℕ-discrete (firstOf (hearChecks d b)) 0)
+  where
+    after : (r : SeatRecord) → afterRecord d r .seat ≡ d .seat
+    after (aNotice n) = refl
+    after (aView v) = refl
+
+    go : Dec (firstOf (hearChecks d b) ≡ 0) → hearOf d b .desk .seat ≡ d .seat
+    go (yes z) = rw z (after (seatRecordOf b))
+    go (no n) = rw (ne-eqb (firstOf (hearChecks d b)) 0 n)

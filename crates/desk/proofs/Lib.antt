@@ -1,3 +1,5 @@
 pub mod Accepted
 pub mod Laws
 mod Readers
+pub mod SyncLaws
+pub mod Taken

@@ -1,9 +1,9 @@
 -- What a seat makes of a start notice or a view: the reasons to refuse, in the order of change request 3, and what an accepted one leaves.
-use mathlib.Core.Bool.{true, false, not}
+use mathlib.Core.Bool.{true, false}
 use mathlib.Core.List.{List, _∷_}
 use Prim.Native.Nat.{ℕ}
 use lib.Dec.{eqb, leb}
-use Rattle.laws.specs.Checks.{Check, firstOf}
+use Rattle.laws.specs.Checks.{Check, numbered, firstOf}
 use Rattle.laws.specs.Upd.{ifb}
 use Rattle.seats.specs.Seats.{seatCount}
 use Rattle.records.specs.Layout.{noticeMark, noticeLength, viewMark, viewLength, valueOf, markOf, checkEither, decodeNotice, decodeView}
@@ -30,7 +30,7 @@ checkSeatRecord = checkEither noticeMark noticeLength viewMark viewLength
 unfoldable pub hearChecks : Desk → List ℕ → List Check
 hearChecks d b =
     record { number = 6; applies = leb seatCount (d .seat) }
-    ∷ record { number = checkSeatRecord b; applies = not (eqb (checkSeatRecord b) 0) } ∷ seatChecks d (seatRecordOf b)
+    ∷ numbered (checkSeatRecord b) ∷ seatChecks d (seatRecordOf b)
 
 -- a notice sets the start number and opens a change; a view sets the view number and closes it
 unfoldable pub afterRecord : Desk → SeatRecord → Desk

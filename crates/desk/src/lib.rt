@@ -1,12 +1,14 @@
 // The desk's own end: a seat is made, takes start notices and views, and keeps the last start number, the last view number and whether a
-// change is open.
+// change is open; after a notice it makes its sync record.
 use desk_checks::Desk;
 
 pub mod hearing;
 pub mod making;
+pub mod syncing;
 
 pub use hearing::hear;
 pub use making::fresh_seat;
+pub use syncing::make_sync;
 
 // The refusal or 0, and the state that it leaves.
 pub struct Heard {

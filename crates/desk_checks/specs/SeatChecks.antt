@@ -43,10 +43,14 @@ abbrev pub staleNotice : Desk → SeatRecord → Bool
 staleNotice d (aNotice n) = leb (n .start) (d .start) || ltb (n .start) (d .view)
 staleNotice d (aView v) = false
 
+-- the start number that a view has for a seat's office
+abbrev pub startFor : View → ℕ → ℕ
+startFor v seat = getD (v .starts) (officeOf seat) 0
+
 -- 15: a view finds no change open or carries another start number for the seat's office
 abbrev pub unawaitedView : Desk → SeatRecord → Bool
 unawaitedView d (aNotice n) = false
-unawaitedView d (aView v) = not (d .changing) || not (eqb (getD (v .starts) (officeOf (d .seat)) 0) (d .start))
+unawaitedView d (aView v) = not (d .changing) || not (eqb (startFor v (d .seat)) (d .start))
 
 -- 16: a view's number is not above the last start number
 abbrev pub staleView : Desk → SeatRecord → Bool

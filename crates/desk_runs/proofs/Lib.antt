@@ -2,3 +2,4 @@ pub mod Days
 pub mod Follows
 pub mod Runs
 mod Taking
+pub mod Syncs

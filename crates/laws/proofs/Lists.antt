@@ -26,6 +26,10 @@ module _ {A : Type 0} {R : A → Type 0} where
   every-append none f = f
   every-append (more r e) f = more r (every-append e f)
 
+  pub every-split : (a : List A) {b : List A} → Every R (a ++ b) → Every R a × Every R b
+  every-split [] e = (none, e)
+  every-split (x ∷ a) (more r e) = let w = every-split a e in (more r (w .0), w .1)
+
   pub every-map : {S : A → Type 0} {l : List A} → ((a : A) → R a → S a) → Every R l → Every S l
   every-map f none = none
   every-map f (more r e) = more (f _ r) (every-map f e)

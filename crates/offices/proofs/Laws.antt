@@ -94,6 +94,12 @@ has-packed (suc n) p k h =
     go (yes e) ih = rw (e, has-high n (packed n p) n (packed-lt n p) (omega arith), eq-eqb n n refl, and-true)
     go (no q) ih = rw (ne-eqb k n q, and-false, or-false) (ih (omega arith))
 
+-- tests that agree below n make one number
+pub packed-same : (n : ℕ) (p q : ℕ → Bool) → ((k : ℕ) → k < n → p k ≡ q k) → packed n p ≡ packed n q
+unfolding packed
+packed-same zero p q e = refl
+packed-same (suc n) p q e = rw (e n (omega arith), packed-same n p q (λ k l. e k (omega arith)))
+
 pub has-offices : (x o : ℕ) → o < 16 → has (officesOf x) o ≡ serves x o
 unfolding officesOf
 has-offices x o h = has-packed 16 (serves x) o h

@@ -48,6 +48,15 @@ own-length m n b h =
     let e = own-mark m n b h in
     check-length n b (rw (eq-eqb (markOf b) (valueOf m) e) at h)
 
+-- bytes of the right length are refused by 4 alone
+pub own-4 : (m : List ℕ) (n : ℕ) (b : List ℕ) → length b ≡ n → 0 < n → checkOwn m n b ≡ ifb (eqb (markOf b) (valueOf m)) 0 4
+unfolding checkOwn checkFor
+own-4 m n b e p = go (eqb (markOf b) (valueOf m))
+  where
+    go : (t : Bool) → checkFor (ifb t n 0) b ≡ ifb t 0 4
+    go true = check-passes n b e p
+    go false = refl
+
 -- two bytes or more have a mark
 pub long-mark : (b : List ℕ) → 2 ≤ length b → markOf b ≡ valueOf b
 unfolding markOf

@@ -1,4 +1,4 @@
--- The lengths of the four records.
+-- The lengths of the five records.
 use mathlib.Core.Path.{_≡_, refl}
 use native.Mathlib.Omega.{arith}
 use lib.ListN.{length}
@@ -7,8 +7,9 @@ use Rattle.records.specs.declared.Report.{Report}
 use Rattle.records.specs.declared.Proposal.{Proposal}
 use Rattle.records.specs.declared.Notice.{Notice}
 use Rattle.records.specs.declared.View.{View}
-use Rattle.records.specs.Layout.{encodeReport, encodeProposal, encodeNotice, encodeView}
-use Rattle.records.specs.Layout.{reportLength, proposalLength, noticeLength, viewLength}
+use Rattle.records.specs.declared.Sync.{Sync}
+use Rattle.records.specs.Layout.{encodeReport, encodeProposal, encodeNotice, encodeView, encodeSync}
+use Rattle.records.specs.Layout.{reportLength, proposalLength, noticeLength, viewLength, syncLength}
 
 pub report-length : (r : Report) → length (encodeReport r) ≡ reportLength
 unfolding encodeReport
@@ -25,3 +26,7 @@ notice-length n = refl
 pub view-length : (v : View) → length (v .starts) ≡ 16 → length (encodeView v) ≡ viewLength
 unfolding encodeView
 view-length v h = let e = length-all (v .starts) in omega arith
+
+pub sync-length : (r : Sync) → length (encodeSync r) ≡ syncLength
+unfolding encodeSync
+sync-length r = refl

@@ -14,12 +14,13 @@ use Rattle.records.specs.declared.Report.{Report}
 use Rattle.records.specs.declared.Proposal.{Proposal}
 use Rattle.records.specs.declared.Notice.{Notice}
 use Rattle.records.specs.declared.View.{View}
-use Rattle.records.specs.Layout.{encodeReport, encodeProposal, encodeNotice, encodeView, sixteenAt}
-use Rattle.records.specs.Layout.{decodeReport, decodeProposal, decodeNotice, decodeView, checkOf, checkOwn}
-use Rattle.records.specs.Layout.{reportMark, proposalMark, noticeMark, viewMark, reportLength, proposalLength, noticeLength, viewLength}
+use Rattle.records.specs.declared.Sync.{Sync}
+use Rattle.records.specs.Layout.{encodeReport, encodeProposal, encodeNotice, encodeView, encodeSync, sixteenAt}
+use Rattle.records.specs.Layout.{decodeReport, decodeProposal, decodeNotice, decodeView, decodeSync, checkOf, checkOwn}
+use Rattle.records.specs.Layout.{reportMark, proposalMark, noticeMark, viewMark, syncMark, reportLength, proposalLength, noticeLength, viewLength, syncLength}
 use Rattle.records.proofs.CheckLaws.{own-front, own-length, own-passes, report-checks, proposal-checks}
-use Rattle.records.proofs.Lengths.{report-length, proposal-length, notice-length, view-length}
-use Rattle.records.specs.Fits.{FitsSixteen, FitsReport, FitsProposal, FitsNotice, FitsView}
+use Rattle.records.proofs.Lengths.{report-length, proposal-length, notice-length, view-length, sync-length}
+use Rattle.records.specs.Fits.{FitsSixteen, FitsReport, FitsProposal, FitsNotice, FitsView, FitsSync}
 
 -- a value by its bytes
 pub report-back : (r : Report) → FitsReport r → decodeReport (encodeReport r) ≡ r
@@ -33,6 +34,10 @@ report-back r f =
 pub notice-back : (n : Notice) → FitsNotice n → decodeNotice (encodeNotice n) ≡ n
 unfolding encodeNotice decodeNotice
 notice-back n f = rw (digits4 (n .start) (f .start), digits8 (n .members .bits) (f .members))
+
+pub sync-back : (r : Sync) → FitsSync r → decodeSync (encodeSync r) ≡ r
+unfolding encodeSync decodeSync
+sync-back r f = rw (digits4 (r .start) (f .start), digits4 (r .previous) (f .previous))
 
 sixteen-back : (a l : List ℕ) → FitsSixteen l → sixteenAt (a ++ bytesAll l) (length a) ≡ l
 sixteen-back a l f = all-back a l 16 (f .count) (f .each)
@@ -74,6 +79,10 @@ pub view-passes : (v : View) → FitsView v → checkOwn viewMark viewLength (en
 unfolding encodeView
 view-passes v f = own-passes _ _ viewLength _ (view-length v (f .starts .count))
 
+pub sync-passes : (r : Sync) → checkOwn syncMark syncLength (encodeSync r) ≡ 0
+unfolding encodeSync
+sync-passes r = own-passes _ _ syncLength _ (sync-length r)
+
 pub report-checked : (r : Report) → checkOf (encodeReport r) ≡ 0
 report-checked r = report-checks (encodeReport r) (report-passes r)
 
@@ -112,6 +121,12 @@ module _ (b : List ℕ) (bytes : Below 256 b) where
       (both {a = getD b 2 0 ∷ getD b 3 0 ∷ []} refl
       (both (big8-back b bytes 4) (both (big4-back b bytes 12) (both (big4-back b bytes 16) (bytes-back 16 20 b bytes)))))
 
+  pub sync-again : checkOwn syncMark syncLength b ≡ 0 → encodeSync (decodeSync b) ≡ b
+  unfolding encodeSync decodeSync tab
+  sync-again c =
+      whole _ _ 9 _ (omega arith) (omega arith) c
+      (both {a = getD b 2 0 ∷ []} refl (both (big4-back b bytes 3) (big4-back b bytes 7)))
+
   -- what is read from bytes fits
   sixteen-fits : (at : ℕ) → FitsSixteen (sixteenAt b at)
   sixteen-fits at = record {
@@ -141,3 +156,7 @@ module _ (b : List ℕ) (bytes : Below 256 b) where
   pub view-fits : FitsView (decodeView b)
   unfolding decodeView
   view-fits = record { number = big4-below b bytes 2; members = big8-below b bytes 6; starts = sixteen-fits 14 }
+
+  pub sync-fits : FitsSync (decodeSync b)
+  unfolding decodeSync
+  sync-fits = record { seat = bytes 2; start = big4-below b bytes 3; previous = big4-below b bytes 7 }

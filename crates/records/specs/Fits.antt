@@ -1,4 +1,4 @@
--- The values that fit the fields of the four records.
+-- The values that fit the fields of the five records.
 use mathlib.Core.Path.{_≡_}
 use mathlib.Core.List.{List}
 use Prim.Native.Nat.{ℕ, _<_, _^_}
@@ -8,6 +8,7 @@ use Rattle.records.specs.declared.Report.{Report}
 use Rattle.records.specs.declared.Proposal.{Proposal}
 use Rattle.records.specs.declared.Notice.{Notice}
 use Rattle.records.specs.declared.View.{View}
+use Rattle.records.specs.declared.Sync.{Sync}
 
 -- sixteen numbers of four bytes each
 pub record FitsSixteen (l : List ℕ) : Type 0 where
@@ -34,3 +35,8 @@ pub record FitsView (v : View) : Type 0 where
   pub number : v .number < 2 ^ 32
   pub members : v .members .bits < 2 ^ 64
   pub starts : FitsSixteen (v .starts)
+
+pub record FitsSync (r : Sync) : Type 0 where
+  pub seat : r .seat < 256
+  pub start : r .start < 2 ^ 32
+  pub previous : r .previous < 2 ^ 32

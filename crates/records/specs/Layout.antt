@@ -1,4 +1,4 @@
--- The layout of the four records, and checks 4 and 5. Numbers are stored most significant byte first; a record starts with its two-byte mark.
+-- The layout of the five records, and checks 4 and 5. Numbers are stored most significant byte first; a record starts with its two-byte mark.
 use mathlib.Core.List.{List, [], _∷_, _++_}
 use Prim.Native.Nat.{ℕ, _+_, _*_}
 use lib.ListN.{length, getD}
@@ -11,10 +11,11 @@ use Rattle.records.specs.declared.Report.{Report}
 use Rattle.records.specs.declared.Proposal.{Proposal}
 use Rattle.records.specs.declared.Notice.{Notice}
 use Rattle.records.specs.declared.View.{View}
+use Rattle.records.specs.declared.Sync.{Sync}
 use Rattle.records.specs.declared.Form.{Form}
 use Rattle.records.specs.declared.RecordKind.the-variants as kinds
 
--- the marks "NE", "PR", "SC", "VW"
+-- the marks "NE", "PR", "SC", "VW", "SY"
 abbrev pub reportMark : List ℕ
 reportMark = 0x4e ∷ 0x45 ∷ []
 
@@ -27,6 +28,9 @@ noticeMark = 0x53 ∷ 0x43 ∷ []
 abbrev pub viewMark : List ℕ
 viewMark = 0x56 ∷ 0x57 ∷ []
 
+abbrev pub syncMark : List ℕ
+syncMark = 0x53 ∷ 0x59 ∷ []
+
 abbrev pub reportLength : ℕ
 reportLength = 18
 
@@ -38,6 +42,9 @@ noticeLength = 14
 
 abbrev pub viewLength : ℕ
 viewLength = 78
+
+abbrev pub syncLength : ℕ
+syncLength = 11
 
 -- the set of seats at a place
 abbrev pub seatsAt : List ℕ → ℕ → SeatSet
@@ -84,6 +91,13 @@ encodeView v = viewMark ++ bytes4 (v .number) ++ bytes8 (v .members .bits) ++ by
 
 unfoldable pub decodeView : List ℕ → View
 decodeView b = record { number = big4 b 2; members = seatsAt b 6; starts = sixteenAt b 14 }
+
+-- sync: 2 seat, 3-6 start number, 7-10 previous view number
+unfoldable pub encodeSync : Sync → List ℕ
+encodeSync r = syncMark ++ (r .seat ∷ []) ++ bytes4 (r .start) ++ bytes4 (r .previous)
+
+unfoldable pub decodeSync : List ℕ → Sync
+decodeSync b = record { seat = getD b 2 0; start = big4 b 3; previous = big4 b 7 }
 
 -- the two bytes of a mark as one number
 abbrev pub valueOf : List ℕ → ℕ

@@ -8,6 +8,8 @@ pub const NOTICE_MARK: [u8; 2] = *b"SC";
 
 pub const VIEW_MARK: [u8; 2] = *b"VW";
 
+pub const SYNC_MARK: [u8; 2] = *b"SY";
+
 // Each mark's value: its two bytes as one number.
 pub const REPORT: u16 = (REPORT_MARK[0] as u16) * 256 + (REPORT_MARK[1] as u16);
 
@@ -46,3 +48,11 @@ pub const VIEW_NUMBER: usize = 2;
 pub const VIEW_MEMBERS: usize = 6;
 
 pub const STARTS: usize = 14;
+
+pub const SYNC_LENGTH: usize = 11;
+
+pub const SYNC_SEAT: usize = 2;
+
+pub const SYNC_START: usize = 3;
+
+pub const SYNC_PREVIOUS: usize = 7;

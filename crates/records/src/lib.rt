@@ -1,4 +1,4 @@
-// The four records, as values, and one layout for reading and writing them. The kind of a proposal stays the raw byte (1 fast,
+// The five records, as values, and one layout for reading and writing them. The kind of a proposal stays the raw byte (1 fast,
 // 2 slow), so that every byte string of the right length and mark is a record.
 use seats::SeatSet;
 
@@ -39,6 +39,13 @@ pub struct View {
     pub number: u32,
     pub members: SeatSet,
     pub starts: [u32; 16],
+}
+
+// What a desk sends the other desks after a start notice: its seat, the notice's start number, the number of the view that is ending.
+pub struct Sync {
+    pub seat: u8,
+    pub start: u32,
+    pub previous: u32,
 }
 
 // What a mark calls for: the records that reach the server, and any other.

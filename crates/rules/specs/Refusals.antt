@@ -4,7 +4,7 @@ use mathlib.Core.List.{List, [], _∷_, _++_}
 use Prim.Native.Nat.{ℕ}
 use lib.ListN.{getD, length}
 use lib.Dec.{eqb, ltb, leb}
-use Rattle.laws.specs.Checks.{Check, firstOf}
+use Rattle.laws.specs.Checks.{Check, numbered, firstOf}
 use Rattle.laws.specs.Fin.{allb}
 use Rattle.laws.specs.Upd.{ifb}
 use Rattle.offices.specs.Offices.{serves}
@@ -44,7 +44,7 @@ fullRoom = 182
 unfoldable pub unreadable : State → List ℕ → ℕ → ℕ
 unreadable s b room =
     firstOf (record { number = 2; applies = not (wellFormed s) } ∷ record { number = 3; applies = ltb room fullRoom }
-    ∷ record { number = checkOf b; applies = not (eqb (checkOf b) 0) } ∷ [])
+    ∷ numbered (checkOf b) ∷ [])
 
 -- a record that was read
 pub data Event : Type 0 where

@@ -12,8 +12,9 @@ use Rattle.laws.specs.Upd.{ifb}
 use Rattle.desk_checks.specs.declared.Desk.{Desk}
 use Rattle.desk.specs.declared.Heard.{Heard}
 use Rattle.desk.specs.Hearing.{madeDesk, hearOf}
+use Rattle.desk.specs.Syncing.{syncBytes}
 use Rattle.desk.proofs.Laws.{refusal-keeps}
-use Rattle.seat_calls.specs.Words.{deskLength, deskOf, deskWords, freshInWords, heardInWords, hearInWords}
+use Rattle.seat_calls.specs.Words.{deskLength, deskOf, deskWords, freshInWords, heardInWords, hearInWords, syncInWords}
 
 flag : (b : Bool) → boolByte b ≡ ifb b 1 0
 flag true = refl
@@ -36,6 +37,10 @@ module _ (ws : List ℕ) (other : length ws ≡ deskLength → ⊥) where
   unfolding freshInWords
   fresh-other seat = rw (ne-eqb (length ws) deskLength other)
 
+  pub sync-other : syncInWords ws ≡ []
+  unfolding syncInWords
+  sync-other = rw (ne-eqb (length ws) deskLength other)
+
   pub hear-other : (b : List ℕ) → record { refusal = 6; words = ws } ≡ hearInWords ws b
   unfolding hearInWords
   hear-other b = rw (ne-eqb (length ws) deskLength other)
@@ -45,6 +50,10 @@ module _ (ws : List ℕ) (four : length ws ≡ deskLength) where
       → record { refusal = m .refusal; words = ws′ } ≡ freshInWords seat ws
   unfolding freshInWords
   fresh-made seat m ws′ e d = rw (eq-eqb (length ws) deskLength four, d, e)
+
+  pub sync-words : syncInWords ws ≡ syncBytes (deskOf ws)
+  unfolding syncInWords
+  sync-words = rw (eq-eqb (length ws) deskLength four)
 
   module _ (b : List ℕ) (h : Heard) (e : h ≡ hearOf (deskOf ws) b) where
     pub hear-kept : (h .refusal ≡ 0 → ⊥) → record { refusal = h .refusal; words = ws } ≡ hearInWords ws b

@@ -8,6 +8,7 @@ use Rattle.laws.specs.Upd.{ifb}
 use Rattle.desk_checks.specs.declared.Desk.{Desk}
 use Rattle.desk.specs.declared.Heard.{Heard}
 use Rattle.desk.specs.Hearing.{madeDesk, hearOf}
+use Rattle.desk.specs.Syncing.{syncBytes}
 
 abbrev pub deskLength : ℕ
 deskLength = 4
@@ -36,3 +37,7 @@ heardInWords ws h = ifb (eqb (h .refusal) 0) (record { refusal = 0; words = desk
 
 unfoldable pub hearInWords : List ℕ → List ℕ → InWords
 hearInWords ws b = ifb (eqb (length ws) deskLength) (heardInWords ws (hearOf (deskOf ws) b)) (record { refusal = 6; words = ws })
+
+-- the bytes of the seat's sync record; words of another length have none
+unfoldable pub syncInWords : List ℕ → List ℕ
+syncInWords ws = ifb (eqb (length ws) deskLength) (syncBytes (deskOf ws)) []

@@ -1,10 +1,12 @@
 // What a seat calls from C: its state in the caller's words, changed in place; include/room.h declares it.
 use desk::fresh_seat;
 use desk::hear;
+use desk::make_sync;
 use desk_checks::Desk;
 ghost use mathlib.Core.Path.{_≡_};
 ghost use lib.ListN.{length};
-ghost use Rattle.seat_calls.specs.Words.{deskLength, deskOf, deskWords, freshInWords, hearInWords};
+ghost use Rattle.records.specs.Write.{Placed};
+ghost use Rattle.seat_calls.specs.Words.{deskLength, deskOf, deskWords, freshInWords, hearInWords, syncInWords};
 
 const WORDS: usize = 4;
 
@@ -65,4 +67,16 @@ pub extern "C" fn room_seat_hear(desk: &mut [u32], record: &[u8]) -> u8
     }
     put(desk, heard.desk);
     0
+}
+
+// Writes the sync record of the seat in the words lent, which are only read.
+#[no_mangle]
+pub extern "C" fn room_seat_sync(desk: &[u32], out: &mut [u8]) -> usize
+    ensures { λ r. ⌜ Placed (now (out .entry)) 0 (syncInWords (now (desk .entry))) r (now (out .exit)) ⌝ }
+{
+    if desk.len() == WORDS {
+        make_sync(desk_of(desk), out)
+    } else {
+        0
+    }
 }

@@ -5,10 +5,12 @@ use Prim.Native.Nat.{ℕ, zero, suc, _-_, _^_, _≤_, _<_, min, max}
 use native.Mathlib.Omega.{arith}
 use native.Mathlib.Decide.{ℕ-discrete, decLt}
 use lib.Dec.{eqb, ltb}
-use lib.Bits.{bitAnd, or-lt, and-le-l}
+use lib.Bits.{bitOr, bitAnd, or-lt, and-le-l}
 use lib.Pow.{pow-lt}
 use borrow.Author.Tests.{eq-eqb, ne-eqb, lt-ltb, le-ltb}
 use Rattle.laws.specs.Bit.{bit}
+use Rattle.laws.specs.Upd.{ifb}
+use Rattle.laws.proofs.Fin.{if-cases}
 use Rattle.laws.proofs.Bit.{bit-or, bit-and, bit-not, bit-lt, bit-zero, bit-pow-same, bit-pow-other, bit-ext, bit-high}
 use Rattle.seats.specs.Seats.{has, containsOf, insertOf, removeOf, unionOf, withoutOf}
 
@@ -116,6 +118,18 @@ union-lt x y hx hy = or-lt 64 x y hx hy
 pub without-lt : (x y : ℕ) → x < 2 ^ 64 → withoutOf x y < 2 ^ 64
 unfolding withoutOf
 without-lt x y hx = let h = and-le-l x (2 ^ 64 - 1 - y) in omega arith
+
+pub insert-lt : (x s : ℕ) → x < 2 ^ 64 → insertOf x s < 2 ^ 64
+unfolding insertOf
+insert-lt x s hx = go (decLt s 64)
+  where
+    go : Dec (s < 64) → ifb (ltb s 64) (bitOr x (2 ^ s)) x < 2 ^ 64
+    go (yes h) = rw (lt-ltb s 64 h) (or-lt 64 x (2 ^ s) hx (pow-lt h))
+    go (no n) = rw (le-ltb s 64 (omega arith)) hx
+
+pub remove-lt : (x s : ℕ) → x < 2 ^ 64 → removeOf x s < 2 ^ 64
+unfolding removeOf
+remove-lt x s hx = if-cases (λ (y : ℕ). y < 2 ^ 64) (ltb s 64) _ _ (λ e. let h = and-le-l x (2 ^ 64 - 1 - 2 ^ s) in omega arith) (λ e. hx)
 
 -- two sets with the same seats are equal
 pub same-seats : (x y : ℕ) → x < 2 ^ 64 → y < 2 ^ 64 → ((s : ℕ) → s < 64 → has x s ≡ has y s) → x ≡ y

@@ -4,6 +4,7 @@ use Prim.Native.Nat.{ℕ, _-_, _^_}
 use lib.Dec.{eqb, ltb}
 use lib.Bits.{bitOr, bitAnd}
 use Rattle.laws.specs.Bit.{bit}
+use Rattle.laws.specs.Lowest.{lowestBelow}
 use Rattle.laws.specs.Upd.{ifb}
 
 abbrev pub seatCount : ℕ
@@ -22,6 +23,10 @@ insertOf x s = ifb (ltb s seatCount) (bitOr x (2 ^ s)) x
 
 unfoldable pub removeOf : ℕ → ℕ → ℕ
 removeOf x s = ifb (ltb s seatCount) (bitAnd x (2 ^ 64 - 1 - 2 ^ s)) x
+
+-- the lowest seat of a set; 64 where it is empty
+unfoldable pub lowestSeat : ℕ → ℕ
+lowestSeat x = lowestBelow seatCount (has x)
 
 -- the seats of x or of y
 unfoldable pub unionOf : ℕ → ℕ → ℕ

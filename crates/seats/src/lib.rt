@@ -1,7 +1,7 @@
 // Sets of seats. There are 64 seats, 0 to 63.
 ghost use mathlib.Core.Path.{_≡_};
 ghost use lib.Dec.{eqb};
-ghost use Rattle.seats.specs.Seats.{containsOf, insertOf, removeOf, unionOf, withoutOf};
+ghost use Rattle.seats.specs.Seats.{containsOf, insertOf, removeOf, lowestSeat, unionOf, withoutOf};
 
 pub const SEATS: u8 = 64;
 
@@ -64,6 +64,13 @@ impl SeatSet {
         SeatSet {
             bits: self.bits & !other.bits,
         }
+    }
+
+    // The lowest seat, 64 where the set is empty.
+    pub fn lowest(self) -> u8
+        ensures { λ r. ⌜ r ≡ lowestSeat (self .bits) ⌝ }
+    {
+        u64::trailing_zeros(self.bits) as u8
     }
 
     pub fn is_empty(self) -> bool

@@ -1,0 +1,43 @@
+// Who came along from the old view: the answer from a sheet of sync records, a view and one's own previous view number.
+use seats::SEATS;
+use sheet_checks::ask_refusal;
+use sheet_pass::Found;
+use sheet_pass::pass;
+use views::read_view;
+ghost use mathlib.Core.Path.{_≡_};
+ghost use Rattle.sheet.specs.Sheet.{cameAlong};
+ghost use Rattle.came_along.specs.Found.{foundAnswer};
+pub use sheet::Along;
+
+// The lowest seat whose record is missing, or those whose record names the number.
+fn answer(found: Found) -> Along
+    ensures { λ r. ⌜ r ≡ foundAnswer found ⌝ }
+{
+    let missing = found.missing;
+    let seat = missing.lowest();
+    if seat < SEATS {
+        return Along::Missing(seat);
+    }
+    let same = found.same;
+    Along::Members(same)
+}
+
+// Any sheet, any view, any number. The view is read first.
+pub fn came_along(sheet: &[u8], view: &[u8], previous: u32) -> Along
+    ensures { λ r. ⌜ r ≡ cameAlong (now (sheet .entry)) (now (view .entry)) previous ⌝ }
+{
+    let read = read_view(view);
+    if read.refusal != 0 {
+        return Along::Refused(read.refusal);
+    }
+    let shown = read.view;
+    let refusal = ask_refusal(shown, previous, sheet.len());
+    if refusal != 0 {
+        return Along::Refused(refusal);
+    }
+    let passed = pass(sheet, shown, previous);
+    if passed.refusal != 0 {
+        return Along::Refused(passed.refusal);
+    }
+    answer(passed.found)
+}

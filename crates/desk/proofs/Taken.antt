@@ -1,0 +1,84 @@
+-- What a seat that has accepted a view tells: its own numbers are sound, a change was open with the view's start number, and it is closed then.
+use mathlib.Core.Path.{_≡_, sym, _∙_}
+use mathlib.Core.Bool.{true, false, not, _||_}
+use mathlib.Core.List.{List, _∷_}
+use Prim.Native.Nat.{ℕ, _<_}
+use native.Mathlib.Omega.{arith}
+use native.Mathlib.Decide.{ℕ-discrete}
+use borrow.Author.Tests.{leb-false, ltb-false, eqb-true, ne-eqb, not-false}
+use lib.Dec.{ltb, leb}
+use Rattle.laws.specs.Checks.{numbered, firstOf}
+use Rattle.laws.proofs.Checks.{first-none, no-reason}
+use Rattle.laws.proofs.Fin.{or-l, or-r}
+use Rattle.seats.specs.Seats.{seatCount}
+use Rattle.number_checks.specs.Numbers.{limit}
+use Rattle.records.specs.Layout.{noticeMark, noticeLength, checkOwn, checkFor, decodeView, encodeView}
+use Rattle.records.specs.declared.View.{View}
+use Rattle.records.proofs.CheckLaws.{long-mark}
+use Rattle.desk_checks.specs.declared.Desk.{Desk}
+use Rattle.desk_checks.specs.SeatChecks.{aView, recordAbove, tooHigh, lacksSeat, strayStart, startFor, unawaitedView, seatChecks}
+use Rattle.desk.specs.Hearing.{seatRecordOf, checkSeatRecord, hearChecks, afterRecord, hearOf}
+use Rattle.desk.proofs.Laws.{by-view}
+use Rattle.desk.proofs.Accepted.{SoundDesk}
+
+pub record TookView (d : Desk) (b : List ℕ) : Type 0 where
+  pub sound : SoundDesk d
+  pub changing : d .changing ≡ true
+  pub own : startFor (decodeView b) (d .seat) ≡ d .start
+  pub closes : hearOf d b .desk .changing ≡ false
+
+module _ (d : Desk) (b : List ℕ) where
+  -- no check applies to what is accepted
+  none-applies : hearOf d b .refusal ≡ 0 → firstOf (hearChecks d b) ≡ 0
+  unfolding hearOf
+  none-applies z = go (ℕ-discrete (firstOf (hearChecks d b)) 0) z
+    where
+      go : Dec (firstOf (hearChecks d b) ≡ 0) → hearOf d b .refusal ≡ 0 → firstOf (hearChecks d b) ≡ 0
+      go (yes e) z = e
+      go (no n) z = rw (ne-eqb (firstOf (hearChecks d b)) 0 n) at z
+
+  module _ (other : checkOwn noticeMark noticeLength b ≡ 4) (z : hearOf d b .refusal ≡ 0) where
+    -- the checks in turn: 6, 4 and 5, and those of the view
+    below : d .seat < seatCount
+    unfolding hearChecks
+    below = leb-false seatCount (d .seat) (first-none (leb seatCount (d .seat)) 5 _ .0 (none-applies z) .0)
+
+    behind-6 : firstOf (numbered (checkSeatRecord b) ∷ seatChecks d (seatRecordOf b)) ≡ 0
+    unfolding hearChecks
+    behind-6 = first-none (leb seatCount (d .seat)) 5 _ .0 (none-applies z) .1
+
+    is-view : seatRecordOf b ≡ aView (decodeView b)
+    is-view = let r = by-view b other in r .is (sym (r .number) ∙ no-reason (checkSeatRecord b) _ behind-6 .0)
+
+    of-view : firstOf (seatChecks d (aView (decodeView b))) ≡ 0
+    of-view = let e : firstOf (seatChecks d (seatRecordOf b)) ≡ 0 = no-reason (checkSeatRecord b) _ behind-6 .1 in rw is-view at e
+
+    low : tooHigh d (aView (decodeView b)) ≡ false
+    unfolding seatChecks
+    low = first-none (tooHigh d (aView (decodeView b))) 7 _ .0 of-view .0
+
+    awaited : unawaitedView d (aView (decodeView b)) ≡ false
+    unfolding seatChecks
+    awaited =
+        let nine = first-none (tooHigh d (aView (decodeView b))) 7 _ .0 of-view .1 in
+        let ten = first-none (lacksSeat d (aView (decodeView b))) 8 _ .0 nine .1 in
+        let later = first-none (strayStart (aView (decodeView b))) 9 _ .0 ten .1 in
+        first-none (unawaitedView d (aView (decodeView b))) 14 _ .0 later .0
+
+    pub took-view : TookView d b
+    unfolding tooHigh afterRecord hearOf
+    took-view = record {
+      sound = record {
+        seat = below;
+        start = ltb-false limit (d .start) (or-r (recordAbove (aView (decodeView b))) _ (or-l _ (ltb limit (d .view)) low));
+        view = ltb-false limit (d .view) (or-r (recordAbove (aView (decodeView b)) || ltb limit (d .start)) _ low);
+      };
+      changing = not-false (d .changing) (or-l _ _ awaited);
+      own = eqb-true _ _ (not-false _ (or-r (not (d .changing)) _ awaited));
+      closes = rw (none-applies z, is-view);
+    }
+
+-- the bytes of a view have no notice's mark
+pub view-other : (v : View) → checkOwn noticeMark noticeLength (encodeView v) ≡ 4
+unfolding checkOwn checkFor encodeView
+view-other v = rw (long-mark (encodeView v) (omega arith))
