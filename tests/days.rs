@@ -3,6 +3,8 @@
 // it is refused or does nothing every word of the state. What is expected is written from documents 01 and 02; unwritten bytes are 170, as they
 // were lent. Then a seat's own day and its refusals: a try is one record heard, its answer and the four words of the seat after it. Worked sheets
 // come last.
+#[path = "common/sheet_calls.rs"]
+mod sheet_calls;
 #[path = "common/worked_sheets.rs"]
 mod worked_sheets;
 

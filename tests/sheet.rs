@@ -33,6 +33,8 @@ mod rows;
 mod seat;
 #[path = "common/sheet.rs"]
 mod sheet;
+#[path = "common/sheet_calls.rs"]
+mod sheet_calls;
 #[path = "common/sheet_inputs.rs"]
 mod sheet_inputs;
 #[path = "common/sheet_reached.rs"]
@@ -49,17 +51,10 @@ use model::{View, L};
 use random::Random;
 use seat::notice;
 use sheet::{bytes, Answer, Sync, BYTES, MOST};
+use sheet_calls::{room_came_along, room_seat_sync};
 use sheet_inputs::{add_beside, among, counted, damage, other, put, seats, some_members, some_number, some_view, whole, Asked, BAD};
 use sheet_reached::Reached;
 use std::ops::Range;
-
-#[link(name = "room", kind = "static")]
-extern "C" {
-    fn room_seat_sync(desk: *const u32, words: usize, out: *mut u8, room: usize) -> usize;
-    fn room_came_along(
-        sheet: *const u8, sheet_length: usize, view: *const u8, view_length: usize, previous: u32, members: *mut u64,
-    ) -> u32;
-}
 
 // Stands around the members that are lent.
 const LONG: u64 = 0xc96e_a5b3_7f1d_e287;

@@ -1,14 +1,7 @@
 // Worked sheets: the sync record that a desk makes, who came along by a sheet, the refusals and their order. What is expected is written from
 // documents 01 and 02. A try is one call: its answer, the bytes or the set after it. Bytes and sets that are not written are 170, as they were lent.
+use crate::sheet_calls::{room_came_along, room_seat_sync};
 use crate::{notice, p, report, view, Tally, FAST, L, LENT_BYTE};
-
-#[link(name = "room", kind = "static")]
-extern "C" {
-    fn room_seat_sync(desk: *const u32, words: usize, out: *mut u8, room: usize) -> usize;
-    fn room_came_along(
-        sheet: *const u8, sheet_length: usize, view: *const u8, view_length: usize, previous: u32, members: *mut u64,
-    ) -> u32;
-}
 
 const LENT_SET: u64 = 170;
 

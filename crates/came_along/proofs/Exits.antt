@@ -8,7 +8,7 @@ use Rattle.laws.proofs.Lowest.{lowest-same}
 use Rattle.seats.specs.Seats.{seatCount, has, lowestSeat}
 use Rattle.offices.specs.Offices.{packed}
 use Rattle.offices.proofs.Laws.{has-packed}
-use Rattle.records.specs.Layout.{decodeView, decodeSync}
+use Rattle.records.specs.Layout.{viewMark, viewLength, checkOwn, decodeView, decodeSync}
 use Rattle.records.specs.declared.View.{View}
 use Rattle.records.specs.declared.Sync.{Sync}
 use Rattle.views.specs.declared.ViewRead.{ViewRead}
@@ -37,14 +37,14 @@ module _ (sheet view : List ℕ) (previous : ℕ) (r : ViewRead) (is-read : r �
     shown : r .view ≡ decodeView view
     shown = ap (λ (x : ViewRead). x .view) is-read ∙ view-decoded view (sym unread ∙ z)
 
-    passes : readView view .refusal ≡ 0
-    passes = sym unread ∙ z
+    passes : checkOwn viewMark viewLength view ≡ 0
+    passes = sym (view-refusal view) ∙ sym unread ∙ z
 
     module _ (n : ℕ) (asked : n ≡ firstOf (askChecks (r .view) previous (length sheet))) where
       pub at-asked : (n ≡ 0 → ⊥) → answers.Refused n ≡ cameAlong sheet view previous
       at-asked h =
           let e : n ≡ firstOf (askChecks (decodeView view) previous (length sheet)) = rw shown at asked in
-          rw e (sym (along-asked sheet view previous (sym (view-refusal view) ∙ passes) (λ q. h (e ∙ q))))
+          rw e (sym (along-asked sheet view previous passes (λ q. h (e ∙ q))))
 
       module _ (q : n ≡ 0) (p : Passed) (is-passed : p ≡ passOf (r .view) previous (recordsOn sheet)) where
         none-asked : firstOf (askChecks (decodeView view) previous (length sheet)) ≡ 0
@@ -55,11 +55,11 @@ module _ (sheet view : List ℕ) (previous : ℕ) (r : ViewRead) (is-read : r �
         number = rw is-passed
 
         pub at-bad : (p .refusal ≡ 0 → ⊥) → answers.Refused (p .refusal) ≡ cameAlong sheet view previous
-        at-bad h = rw number (sym (along-bad sheet view previous (sym (view-refusal view) ∙ passes) none-asked (λ e. h (number ∙ e))))
+        at-bad h = rw number (sym (along-bad sheet view previous passes none-asked (λ e. h (number ∙ e))))
 
         pub at-end : p .refusal ≡ 0 → foundAnswer (p .found) ≡ cameAlong sheet view previous
         unfolding passOf
         at-end e =
             let b : firstBad (recordsOn sheet) ≡ 0 = sym number ∙ e in
-            rw (along-good sheet view previous (sym (view-refusal view) ∙ passes) none-asked b, is-passed, b, shown)
+            rw (along-good sheet view previous passes none-asked b, is-passed, b, shown)
             (found-answers (decodeView view) previous (map decodeSync (recordsOn sheet)))

@@ -9,7 +9,7 @@ ghost use mathlib.Core.Path.{_≡_};
 ghost use Prim.Native.Nat.{_<_};
 ghost use Rattle.laws.specs.Checks.{firstOf};
 ghost use Rattle.seats.specs.Seats.{seatCount};
-ghost use Rattle.desk_checks.specs.SeatChecks.{aNotice, aView, seatChecks};
+ghost use Rattle.desk_checks.specs.SeatChecks.{aNotice, aView, recordAbove, seatChecks};
 
 // The seat, the last start number, the last view number, whether a change is open. Any numbers may stand in it.
 pub struct Desk {
@@ -37,6 +37,14 @@ pub fn notice_refusal(desk: Desk, n: Notice) -> u8
     0
 }
 
+// Whether a view's number or one of its start numbers is above L, for check 8.
+pub fn view_above(v: View) -> bool
+    ensures { λ r. ⌜ r ≡ recordAbove (aView v) ⌝ }
+{
+    let starts = v.starts;
+    (LIMIT < v.number) | above_limit(starts)
+}
+
 // Checks 8, 9, 10, 15 and 16: the first that applies to a view, 0 where none does.
 pub fn view_refusal(desk: Desk, v: View) -> u8
     requires { ⌜ desk .seat < seatCount ⌝ }
@@ -44,7 +52,7 @@ pub fn view_refusal(desk: Desk, v: View) -> u8
 {
     let starts = v.starts;
     let seat = desk.seat as u8;
-    if (LIMIT < v.number) | above_limit(starts) | (LIMIT < desk.start) | (LIMIT < desk.view) {
+    if view_above(v) | (LIMIT < desk.start) | (LIMIT < desk.view) {
         return 8;
     }
     if !v.members.contains(seat) {

@@ -1,6 +1,6 @@
 -- The first record that counts for a seat.
 use mathlib.Core.Path.{_≡_, refl, sym, ap, _∙_}
-use mathlib.Core.Bool.{Bool, true, false, not, _&&_, _||_, true≢false}
+use mathlib.Core.Bool.{Bool, true, false, not, _&&_, _||_, or-false, true≢false}
 use mathlib.Core.List.{List, [], _∷_, _++_}
 use mathlib.Core.Option.{Option, none, some}
 use Prim.Native.Nat.{ℕ}
@@ -47,15 +47,11 @@ module _ (v : View) (seat : ℕ) where
   unfolding recordFor
   names-next previous rs r = rw (for-append rs (r ∷ [])) (go (recordFor v seat rs) (counts v seat r))
     where
-      or-false : (a : Bool) → a ≡ a || false
-      or-false true = refl
-      or-false false = refl
-
       go : (o : Option Sync) (t : Bool)
           → names previous (orElse o (ifb t (some r) none)) ≡ names previous o || missing o && t && eqb (r .previous) previous
       go none true = refl
       go none false = refl
-      go (some q) t = or-false (eqb (q .previous) previous)
+      go (some q) t = sym (or-false (eqb (q .previous) previous))
 
   -- no record counts where it is missing
   pub missing-none : (rs : List Sync) → missing (recordFor v seat rs) ≡ true → NoneCounts v seat rs

@@ -33,28 +33,28 @@ abbrev empty : List ℕ
 empty = viewed 8 0 0 0 0
 
 -- a sync record by its seat, start number and previous view number
-abbrev syncs : ℕ → ℕ → ℕ → List ℕ
-syncs seat start previous = encodeSync (record { seat = seat; start = start; previous = previous })
+abbrev synced : ℕ → ℕ → ℕ → List ℕ
+synced seat start previous = encodeSync (record { seat = seat; start = start; previous = previous })
 
 -- those of the three desks that come from view 2
 abbrev sync0 : List ℕ
-sync0 = syncs 0 3 2
+sync0 = synced 0 3 2
 
 abbrev sync1 : List ℕ
-sync1 = syncs 1 3 2
+sync1 = synced 1 3 2
 
 abbrev sync4 : List ℕ
-sync4 = syncs 4 7 2
+sync4 = synced 4 7 2
 
 unfoldable pub computedAnswers : List Along
 computedAnswers =
     answering (sync0 ++ sync1 ++ sync4) shown 2 ∷ answering (sync4 ++ sync1 ++ sync0) shown 2 ∷ answering (sync0 ++ sync1 ++ sync4) shown 1
-    ∷ answering (sync0 ++ syncs 1 3 1 ++ sync4) shown 2 ∷ answering (sync0 ++ syncs 1 3 1 ++ sync4) shown 1
-    ∷ answering (sync0 ++ sync4) shown 2 ∷ answering (sync0 ++ sync1) shown 2 ∷ answering (sync0 ++ sync1 ++ syncs 5 7 2) shown 2
-    ∷ answering (sync0 ++ syncs 0 3 1 ++ sync1 ++ sync4) shown 2 ∷ answering (syncs 0 3 1 ++ sync0 ++ sync1 ++ sync4) shown 2
-    ∷ answering (syncs 0 2 2 ++ sync1 ++ sync4) shown 2 ∷ answering (syncs 0 2 1 ++ sync0 ++ sync1 ++ sync4) shown 2
-    ∷ answering [] shown 2 ∷ answering [] empty 2 ∷ answering (sync0 ++ syncs 9 0 2) empty 2
-    ∷ answering (syncs 63 0 limit) (viewed limit 0 0 0 0) limit
+    ∷ answering (sync0 ++ synced 1 3 1 ++ sync4) shown 2 ∷ answering (sync0 ++ synced 1 3 1 ++ sync4) shown 1
+    ∷ answering (sync0 ++ sync4) shown 2 ∷ answering (sync0 ++ sync1) shown 2 ∷ answering (sync0 ++ sync1 ++ synced 5 7 2) shown 2
+    ∷ answering (sync0 ++ synced 0 3 1 ++ sync1 ++ sync4) shown 2 ∷ answering (synced 0 3 1 ++ sync0 ++ sync1 ++ sync4) shown 2
+    ∷ answering (synced 0 2 2 ++ sync1 ++ sync4) shown 2 ∷ answering (synced 0 2 1 ++ sync0 ++ sync1 ++ sync4) shown 2
+    ∷ answering [] shown 2 ∷ answering [] empty 2 ∷ answering (sync0 ++ synced 9 0 2) empty 2
+    ∷ answering (synced 63 0 limit) (viewed limit 0 0 0 0) limit
     ∷ []
 
 abbrev members : ℕ → Along
@@ -88,9 +88,9 @@ computedRefusals =
     ∷ answering [] (viewed 8 0b10011 3 7 1) 2 ∷ answering (0 ∷ []) (viewed 8 0b10011 3 7 1) 2
     ∷ answering (take 10 sync0) shown 2 ∷ answering (sync0 ++ (0 ∷ [])) shown 2 ∷ answering (tab 12 (λ k. 0)) shown 2
     ∷ answering (0x53 ∷ 0x43 ∷ tab 9 (λ k. 0)) shown 2 ∷ answering (0x53 ∷ 0x43 ∷ 64 ∷ tab 8 (λ k. 0)) shown 2
-    ∷ answering (syncs 64 3 2) shown 2 ∷ answering (syncs 255 3 2) empty 2 ∷ answering (syncs 64 (limit + 1) 2) shown 2
-    ∷ answering (syncs 0 (limit + 1) 2) shown 2 ∷ answering (syncs 63 3 (limit + 1)) shown 2
-    ∷ answering (sync0 ++ syncs 1 3 (limit + 1) ++ syncs 64 3 2) shown 2 ∷ answering (syncs 64 3 2 ++ tab 11 (λ k. 0)) shown 2
+    ∷ answering (synced 64 3 2) shown 2 ∷ answering (synced 255 3 2) empty 2 ∷ answering (synced 64 (limit + 1) 2) shown 2
+    ∷ answering (synced 0 (limit + 1) 2) shown 2 ∷ answering (synced 63 3 (limit + 1)) shown 2
+    ∷ answering (sync0 ++ synced 1 3 (limit + 1) ++ synced 64 3 2) shown 2 ∷ answering (synced 64 3 2 ++ tab 11 (λ k. 0)) shown 2
     ∷ []
 
 unfoldable pub statedRefusals : List Along

@@ -1,6 +1,6 @@
 // The checks behind a sheet: 8, 10 and 17 of what is asked, 4, 6 and 8 of a record; inner to the sheet.
+use desk_checks::view_above;
 use number_checks::LIMIT;
-use number_checks::above_limit;
 use number_checks::stray_number;
 use records::View;
 use records::layout;
@@ -29,8 +29,7 @@ fn reason(applies: bool, number: u8, rest: u8) -> u8
 fn asked_above(v: View, previous: u32) -> bool
     ensures { λ r. ⌜ r ≡ askedAbove v previous ⌝ }
 {
-    let starts = v.starts;
-    (LIMIT < v.number) | above_limit(starts) | (LIMIT < previous)
+    view_above(v) | (LIMIT < previous)
 }
 
 // Check 17 of a sheet of this length.

@@ -9,29 +9,29 @@ use Rattle.desk_checks.proofs.view_refusal.Statement.{statement}
 use Rattle.desk_checks.proofs.view_refusal.Tie as tie
 
 -- checks 8, 9, 10 and 15 passed
-low : (c : tie.Else1) → let a = c .before .before .before .before .before .before .before .args in tooHigh (a .desk) (aView (a .v)) ≡ false
+low : (c : tie.Else1) → let a = c .before .before .before .before .before .before .args in tooHigh (a .desk) (aView (a .v)) ≡ false
 unfolding tooHigh
-low c = rw (c .before .before .before .above-limit .ensures) at (c .if1 .left)
+low c = rw (c .before .before .before .view-above .ensures) at (c .if1 .left)
 
-member : (c : tie.Else2) → let a = c .before .before .before .before .before .before .before .before .before .args in lacksSeat (a .desk) (aView (a .v)) ≡ false
+member : (c : tie.Else2) → let a = c .before .before .before .before .before .before .before .before .args in lacksSeat (a .desk) (aView (a .v)) ≡ false
 unfolding lacksSeat
 member c = rw (c .before .contains .ensures) at (c .if2 .left)
 
-inside : (c : tie.Else3) → let a = c .before .before .before .before .before .before .before .before .before .before .before .args in strayStart (aView (a .v)) ≡ false
+inside : (c : tie.Else3) → let a = c .before .before .before .before .before .before .before .before .before .before .args in strayStart (aView (a .v)) ≡ false
 inside c = sym (c .before .stray-number .ensures) ∙ c .if3 .left
 
-awaited : (c : tie.Else4) → let a = c .before .before .before .before .before .before .before .before .before .before .before .before .before .before .before .args in unawaitedView (a .desk) (aView (a .v)) ≡ false
+awaited : (c : tie.Else4) → let a = c .before .before .before .before .before .before .before .before .before .before .before .before .before .before .args in unawaitedView (a .desk) (aView (a .v)) ≡ false
 awaited c = rw (c .before .before .office-of .ensures) at (c .if4 .left)
 
 cast-seat : tie.Need-cast-seat
 cast-seat c = search needs
 
-above-limit-requires : tie.Need-above-limit-requires
-above-limit-requires c κs = search needs
+view-above-requires : tie.Need-view-above-requires
+view-above-requires c κs = search needs
 
 returns : tie.Need-returns
 unfolding tooHigh
-returns c = record-8 _ _ (rw (c .before .before .before .above-limit .ensures) at (c .if1 .taken))
+returns c = record-8 _ _ (rw (c .before .before .before .view-above .ensures) at (c .if1 .taken))
 
 contains-requires : tie.Need-contains-requires
 contains-requires c κs = search needs
@@ -57,7 +57,7 @@ mul-if4 c = search needs
 
 array-read-if4 : tie.Need-array-read-if4
 unfolding officeOf
-array-read-if4 c = let e = c .office-of .ensures in let l = c .before .before .before .before .before .before .before .before .before .before .before .before .before .pre in omega arith
+array-read-if4 c = let e = c .office-of .ensures in let l = c .before .before .before .before .before .before .before .before .before .before .before .before .pre in omega arith
 
 returns-4 : tie.Need-returns-4
 returns-4 c = view-15 _ _ (low (c .before .before .before .before .before .before .before .before)) (member (c .before .before .before .before .before .before)) (inside (c .before .before .before .before)) (rw (c .before .before .office-of .ensures) at (c .if4 .taken))
@@ -73,7 +73,7 @@ view-refusal-spec =
     tie.close
     (tie.spec
     cast-seat
-    above-limit-requires
+    view-above-requires
     returns
     contains-requires
     returns-2

@@ -3,12 +3,12 @@ use borrow.Author.Needs.{needs}
 use Rattle.sheet_checks.proofs.asked_above.Statement.{statement}
 use Rattle.sheet_checks.proofs.asked_above.Tie as tie
 
-above-limit-requires : tie.Need-above-limit-requires
-above-limit-requires c κs = search needs
+view-above-requires : tie.Need-view-above-requires
+view-above-requires c κs = search needs
 
 returns : tie.Need-returns
 unfolding askedAbove
-returns c = rw (c .above-limit .ensures)
+returns c = rw (c .view-above .ensures)
 
 pub asked-above-spec : {M : Type 1} → statement M
-asked-above-spec = tie.close (tie.spec above-limit-requires returns)
+asked-above-spec = tie.close (tie.spec view-above-requires returns)
