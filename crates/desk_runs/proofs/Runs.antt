@@ -3,7 +3,8 @@
 use mathlib.Core.Path.{_≡_, refl}
 use mathlib.Core.List.{List}
 use mathlib.Core.Logic.{_⊎_, inl, inr}
-use Prim.Native.Nat.{ℕ, _<_}
+use Prim.Native.Nat.{ℕ, _<_, _≤_}
+use Rattle.records.specs.Fits.{FitsReport}
 use native.Mathlib.Omega.{arith}
 use lib.Dec.{eqb}
 use Rattle.laws.specs.Big.{Below}
@@ -15,9 +16,9 @@ use Rattle.records.specs.Layout.{reportMark, valueOf, markOf}
 use Rattle.records.proofs.RoundTrip.{report-fits}
 use Rattle.rules.specs.State.{State}
 use Rattle.rules.specs.Rules.{Written, fresh}
-use Rattle.rules.specs.Refusals.{eventOf, Result, stepOf}
+use Rattle.rules.specs.Refusals.{Event, aReport, aProposal, eventOf, Result, takeOf}
 use Rattle.rule_laws.proofs.Parts.{fresh-reads}
-use Rattle.rule_laws.proofs.Steps.{Refused, Accepts, step-cases, step-accepts}
+use Rattle.rule_laws.proofs.Steps.{Refused, Takes, take-cases, take-accepts}
 use Rattle.runs.specs.Office.{Input, answerTo, nextState, stateAfter, logOf, sentIn}
 use Rattle.runs.proofs.OfficeRuns.{Beside, beside-run}
 use Rattle.desk_checks.specs.declared.Desk.{Desk}
@@ -26,32 +27,41 @@ use Rattle.desk_runs.specs.Sent.{sentTo, hearings, deskAfter}
 use Rattle.desk_runs.proofs.Taking.{Hears, at-end, hears-then, all-accepted, desk-then}
 use Rattle.desk_runs.proofs.Follows.{Follows, FitsEvent, event-follows}
 
--- what is handed in is bytes
+-- the sets handed in are sets of seats, as those of a record that was read are
+abbrev pub OfSeats : Event → Type 0
+OfSeats (aReport r) = FitsReport r
+OfSeats (aProposal p) = 0 ≤ 0
+
 abbrev pub Bytes : Input → Type 0
-Bytes h = Below 256 (h .bytes)
+Bytes h = OfSeats (h .event)
+
+-- a record that was read is such an event
+pub read-fits : (b : List ℕ) → Below 256 b → OfSeats (eventOf b)
+unfolding eventOf
+read-fits b h = if-cases OfSeats (eqb (markOf b) (valueOf reportMark)) _ _ (λ e. report-fits b h) (λ e. omega arith)
 
 module _ (seat : ℕ) (lt : seat < seatCount) where
   -- a seat beside the office that it follows
   abbrev Beside-it : Desk → List Written → State → Type 0
   Beside-it = Beside (Hears seat) (Follows seat lt)
 
-  sets-fit : (b : List ℕ) → Below 256 b → FitsEvent seat lt (eventOf b)
-  unfolding eventOf
-  sets-fit b h = if-cases (FitsEvent seat lt) (eqb (markOf b) (valueOf reportMark)) _ _ (λ e. report-fits b h) (λ e. tt)
+  sets-fit : (e : Event) → OfSeats e → FitsEvent seat lt e
+  sets-fit (aReport r) h = h
+  sets-fit (aProposal p) h = tt
 
   -- what an answer sends, accepted or not
   next-heard : (d : Desk) (s : State) (h : Input) → Bytes h → Follows seat lt d s → Beside-it d (answerTo s h .written) (nextState s h)
   unfolding answerTo
-  next-heard d s h y f = go (step-cases s (h .bytes) (h .room))
+  next-heard d s h y f = go (take-cases s (h .event) (h .room))
     where
       Is : Result → Type 0
       Is r = Beside-it d (r .written) (r .state)
 
-      go : Refused s (stepOf s (h .bytes) (h .room)) ⊎ Accepts s (h .bytes) (h .room) → Is (stepOf s (h .bytes) (h .room))
+      go : Refused s (takeOf s (h .event) (h .room)) ⊎ Takes s (h .event) (h .room) → Is (takeOf s (h .event) (h .room))
       go (inl r) = rw (r .is) (record { then = d; told = at-end; holds = f })
       go (inr a) =
-          rw (step-accepts s (h .bytes) (h .room) a)
-          (event-follows seat lt d s (eventOf (h .bytes)) (sets-fit (h .bytes) y) (a .acts .passes) (a .acts .within) f)
+          rw (take-accepts s (h .event) (h .room) a)
+          (event-follows seat lt d s (h .event) (sets-fit (h .event) y) (a .acts .passes) (a .acts .within) f)
 
   -- from any state that the seat follows; a fresh start is not needed
   pub run-heard : (d : Desk) (s : State) (hs : List Input) → Every Bytes hs → Follows seat lt d s → Beside-it d (sentIn (logOf s hs)) (stateAfter s hs)

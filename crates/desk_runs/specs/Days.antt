@@ -12,7 +12,7 @@ use Rattle.number_checks.specs.Numbers.{limit}
 use Rattle.records.specs.Layout.{encodeReport, encodeProposal, encodeNotice, encodeView, decodeNotice, decodeView, markOf, checkFor, checkEither}
 use Rattle.rules.specs.State.{fast}
 use Rattle.rules.specs.Rules.{fresh}
-use Rattle.rules.specs.Refusals.{fullRoom}
+use Rattle.rules.specs.Refusals.{fullRoom, eventOf}
 use Rattle.runs.specs.Office.{Input, logOf, sentIn}
 use Rattle.desk_checks.specs.declared.Desk.{Desk}
 use Rattle.desk.specs.declared.Heard.{Heard}
@@ -36,7 +36,7 @@ three a b c = a ∷ b ∷ c ∷ tab 13 (λ o. 0)
 
 -- what is handed to office 0: a report, and a fast proposal of office 1
 abbrev handed : List ℕ → Input
-handed b = record { bytes = b; room = fullRoom }
+handed b = record { event = eventOf b; room = fullRoom }
 
 abbrev reports : ℕ → ℕ → Input
 reports joining leaving = handed (encodeReport (record { joining = record { bits = joining }; leaving = record { bits = leaving } }))

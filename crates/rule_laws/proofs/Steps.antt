@@ -23,7 +23,7 @@ use Rattle.rules.specs.Rules.{Outcome, fresh}
 use Rattle.rule_laws.proofs.Parts.{fresh-reads}
 use Rattle.rules.specs.Refusals.{fullRoom, slotWithin, wellFormed, unreadable, Event, eventOf, wrongSender}
 use Rattle.rules.specs.Refusals.{wrongKind, wrongNumber, withoutSeat, strayUsed, notAbove, usedAhead, proposalChecks, refusalOf, ruleOf, Result}
-use Rattle.rules.specs.Refusals.{refused, accepting, actOf, stepOf}
+use Rattle.rules.specs.Refusals.{refused, accepting, actOf, takeOf, stepOf}
 
 -- what a stored proposal that passes check 2 satisfies
 pub record SlotWithin (v : Slot) : Type 0 where
@@ -194,6 +194,34 @@ act-cases s e = go (ℕ-discrete (refusalOf s e) 0) (wellFormed (ruleOf s e .sta
     go (no n) t w = inl (rw (ne-eqb (refusalOf s e) 0 n) (record { reason = n; is = refl }))
     go (yes z) true w = inr (record { passes = z; within = w })
     go (yes z) false w = inl (rw (z, w) (record { reason = omega arith; is = refl }))
+
+-- an event is taken: checks 2 and 3 pass too
+pub record Takes (s : State) (e : Event) (room : ℕ) : Type 0 where
+  pub well : wellFormed s ≡ true
+  pub fits : fullRoom ≤ room
+  pub acts : AcceptsEvent s e
+
+pub take-accepts : (s : State) (e : Event) (room : ℕ) → Takes s e room → takeOf s e room ≡ accepted (ruleOf s e)
+unfolding takeOf
+take-accepts s e room h = rw (h .well, le-ltb room fullRoom (h .fits)) (act-accepts s e (h .acts))
+
+pub take-cases : (s : State) (e : Event) (room : ℕ) → Refused s (takeOf s e room) ⊎ Takes s e room
+unfolding takeOf
+take-cases s e room = go (wellFormed s) refl (ltb room fullRoom) refl (act-cases s e)
+  where
+    go : (t : Bool) → wellFormed s ≡ t → (u : Bool) → ltb room fullRoom ≡ u → Refused s (actOf s e) ⊎ AcceptsEvent s e → Refused s (takeOf s e room) ⊎ Takes s e room
+    go false p u q a = inl (rw p (record { reason = omega arith; is = refl }))
+    go true p true q a = inl (rw (p, q) (record { reason = omega arith; is = refl }))
+    go true p false q (inl r) = inl (rw (p, q) r)
+    go true p false q (inr a) = inr (record { well = p; fits = ltb-false room fullRoom q; acts = a })
+
+-- a state that passes check 2 passes it after every event
+pub take-well : (s : State) (e : Event) (room : ℕ) → wellFormed s ≡ true → wellFormed (takeOf s e room .state) ≡ true
+take-well s e room w = go (take-cases s e room)
+  where
+    go : Refused s (takeOf s e room) ⊎ Takes s e room → wellFormed (takeOf s e room .state) ≡ true
+    go (inl r) = rw (r .is) w
+    go (inr a) = rw (take-accepts s e room a) (a .acts .within)
 
 -- checks 2 to 5 pass
 pub readable-facts : (s : State) (b : List ℕ) (room : ℕ)

@@ -19,7 +19,7 @@ use Rattle.rules.specs.Rules.{joinedNumber, slowNumber, proposesSlow, sl
 use Rattle.rules.specs.Rules.{agreementTest, tests, changeRule, reportRule, proposalRule}
 use Rattle.number_checks.specs.Numbers.{limit}
 use Rattle.rules.specs.Refusals.{Result, slotWithin, wellFormed, unreadable, eventOf, wrongSender, wrongKind, wrongNumber, withoutSeat}
-use Rattle.rules.specs.Refusals.{strayUsed, notAbove, usedAhead, proposalChecks, accepting, actOf, stepOf, allBytes}
+use Rattle.rules.specs.Refusals.{strayUsed, notAbove, usedAhead, proposalChecks, accepting, actOf, takeOf, stepOf, allBytes}
 
 -- what is seen of a day: the refusal or 0, the bytes written, the records they are, the current view number
 pub record Day : Type 0 where
@@ -55,7 +55,7 @@ unfolding upd allb anyb largest tab bytesAll bit has unionOf withoutOf serves en
     encodeNotice encodeView markOf formFor formOf checkFor checkOf andThen fresh netAfter withNet repeats seated opened noticeOf opens nextNumber
     ownProposal proposed receives proposesFast received matching matchingSlow aboveOwn usesOwn slowCalled joinedNumber slowNumber proposesSlow
     slowTest agreesKind isNone agreed startOf viewOf concluded agreementTest tests changeRule reportRule proposalRule slotWithin wellFormed unreadable
-    eventOf wrongSender wrongKind wrongNumber withoutSeat strayUsed notAbove usedAhead proposalChecks accepting actOf stepOf allBytes
+    eventOf wrongSender wrongKind wrongNumber withoutSeat strayUsed notAbove usedAhead proposalChecks accepting actOf takeOf stepOf allBytes
 given s b = stepOf s b 182
 
 -- what is handed in: a report of joining and of leaving seats, one of joining seats only, and P of document 01

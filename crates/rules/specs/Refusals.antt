@@ -114,6 +114,10 @@ accepting s o = ifb (wellFormed (o .state)) (record { refusal = 0; written = o .
 unfoldable pub actOf : State → Event → Result
 actOf s e = ifb (eqb (refusalOf s e) 0) (accepting s (ruleOf s e)) (refused (refusalOf s e) s)
 
+-- an event handed to a state, with an output of length room: 2, 3, then 6 to 13
+unfoldable pub takeOf : State → Event → ℕ → Result
+takeOf s e room = ifb (wellFormed s) (ifb (ltb room fullRoom) (refused 3 s) (actOf s e)) (refused 2 s)
+
 -- the step: the bytes of a record handed to a state, with an output of length room
 unfoldable pub stepOf : State → List ℕ → ℕ → Result
 stepOf s b room = ifb (eqb (unreadable s b room) 0) (actOf s (eventOf b)) (refused (unreadable s b room) s)

@@ -6,61 +6,46 @@ use mathlib.Core.List.{List, []}
 use Prim.Native.Nat.{ℕ}
 use lib.Dec.{ltb}
 use borrow.Author.Tests.{ltb-false}
-use Rattle.records.specs.Layout.{checkOf, encodeProposal, decodeProposal}
 use Rattle.records.specs.declared.Proposal.{Proposal}
 use Rattle.rules.specs.State.{State}
 use Rattle.rules.specs.Rules.{Outcome}
-use Rattle.rules.specs.Refusals.{wellFormed, unreadable, Event, eventOf, refusalOf, ruleOf, accepting, actOf, Result, stepOf}
-use Rattle.rule_laws.proofs.Steps.{accepted, Refused, Accepts, Passes, check-facts, step-accepts, step-cases}
-use Rattle.rule_laws.proofs.Encoded.{proposal-event, sender-stays}
+use Rattle.rules.specs.Refusals.{fullRoom, wellFormed, Event, aProposal, refusalOf, ruleOf, accepting, actOf, Result, takeOf}
+use Rattle.rule_laws.proofs.Steps.{accepted, Refused, Takes, Passes, check-facts, take-accepts, take-cases}
 use Rattle.runs.specs.World.{World, proposalAnswer}
 use Rattle.runs.proofs.Arrays.{Barred}
 use Rattle.runs.proofs.Proposals.{other-members}
 
-module _ (s : State) (b : List ℕ) (room : ℕ) (e : Event) where
+module _ (s : State) (e : Event) (room : ℕ) where
   -- where nothing but the room or the ceiling can refuse
-  accepts-or-barred : wellFormed s ≡ true → checkOf b ≡ 0 → eventOf b ≡ e → refusalOf s e ≡ 0 → Accepts s b room ⊎ Barred (stepOf s b room)
-  unfolding stepOf unreadable actOf accepting
-  accepts-or-barred w c v z = go (ltb room 182) refl (wellFormed (ruleOf s e .state)) refl
+  accepts-or-barred : wellFormed s ≡ true → refusalOf s e ≡ 0 → Takes s e room ⊎ Barred (takeOf s e room)
+  unfolding takeOf actOf accepting
+  accepts-or-barred w z = go (ltb room fullRoom) refl (wellFormed (ruleOf s e .state)) refl
     where
-      go : (t : Bool) → ltb room 182 ≡ t → (u : Bool) → wellFormed (ruleOf s e .state) ≡ u → Accepts s b room ⊎ Barred (stepOf s b room)
+      go : (t : Bool) → ltb room fullRoom ≡ t → (u : Bool) → wellFormed (ruleOf s e .state) ≡ u → Takes s e room ⊎ Barred (takeOf s e room)
       go true l u x = inr (inl (rw (w, l)))
-      go false l true x = inl (record {
-        well = w;
-        fits = ltb-false room 182 l;
-        readable = c;
-        acts = rw v (record { passes = z; within = x });
-      })
-      go false l false x = inr (inr (rw (w, l, c, v, z, x)))
+      go false l true x = inl (record { well = w; fits = ltb-false room fullRoom l; acts = record { passes = z; within = x } })
+      go false l false x = inr (inr (rw (w, l, z, x)))
 
-  pub accepted-or-barred : wellFormed s ≡ true → checkOf b ≡ 0 → eventOf b ≡ e → refusalOf s e ≡ 0
-      → Accepts s b room ⊎ (Refused s (stepOf s b room) × Barred (stepOf s b room))
-  accepted-or-barred w c v z = go (step-cases s b room) (accepts-or-barred w c v z)
+  pub accepted-or-barred : wellFormed s ≡ true → refusalOf s e ≡ 0 → Takes s e room ⊎ (Refused s (takeOf s e room) × Barred (takeOf s e room))
+  accepted-or-barred w z = go (take-cases s e room) (accepts-or-barred w z)
     where
-      go : Refused s (stepOf s b room) ⊎ Accepts s b room → Accepts s b room ⊎ Barred (stepOf s b room)
-          → Accepts s b room ⊎ (Refused s (stepOf s b room) × Barred (stepOf s b room))
+      go : Refused s (takeOf s e room) ⊎ Takes s e room → Takes s e room ⊎ Barred (takeOf s e room)
+          → Takes s e room ⊎ (Refused s (takeOf s e room) × Barred (takeOf s e room))
       go (inr a) x = inl a
       go (inl r) (inl a) = inl a
       go (inl r) (inr x) = inr (r, x)
 
--- a proposal that cannot be one of the net view's members, as its bytes are read: nothing is written
+-- a proposal that cannot be one of the net view's members: nothing is written
 pub unheard : (w : World) (o room : ℕ) (p : Proposal)
     → ((q : Proposal) → Passes (w .state o) q → q .sender ≡ p .sender → q .members .bits ≡ w .state o .net .bits → ⊥) → proposalAnswer w o p room .written ≡ []
 unfolding proposalAnswer
-unheard w o room p n = go (step-cases s b room)
+unheard w o room p n = go (take-cases s (aProposal p) room)
   where
     s : State
     s = w .state o
 
-    b : List ℕ
-    b = encodeProposal p
-
-    read : Proposal
-    read = decodeProposal b
-
-    go : Refused s (stepOf s b room) ⊎ Accepts s b room → stepOf s b room .written ≡ []
+    go : Refused s (takeOf s (aProposal p) room) ⊎ Takes s (aProposal p) room → takeOf s (aProposal p) room .written ≡ []
     go (inl f) = ap (λ (z : Result). z .written) (f .is)
     go (inr f) =
-        let pass : Passes s read = check-facts s read (sym (ap (refusalOf s) (proposal-event p)) ∙ f .acts .passes) in
-        ap (λ (z : Result). z .written) (step-accepts s b room f ∙ ap (λ (v : Event). accepted (ruleOf s v)) (proposal-event p))
-        ∙ ap (λ (z : Outcome). z .written) (other-members s read (n read pass (sender-stays p)))
+        ap (λ (z : Result). z .written) (take-accepts s (aProposal p) room f)
+        ∙ ap (λ (z : Outcome). z .written) (other-members s p (n p (check-facts s p (f .acts .passes)) refl))

@@ -11,16 +11,14 @@ use Rattle.laws.proofs.Lists.{every-head, every-tail}
 use Rattle.laws.proofs.Fin.{true-false}
 use Rattle.laws.proofs.Upd.{upd-other}
 use Rattle.offices.specs.Offices.{serves}
-use Rattle.records.specs.Layout.{encodeProposal, decodeProposal}
-use Rattle.records.proofs.RoundTrip.{proposal-back, proposal-checked}
+use Rattle.records.proofs.RoundTrip.{proposal-back}
 use Rattle.records.specs.declared.Proposal.{Proposal}
 use Rattle.rules.specs.State.{State, usedAt}
 use Rattle.rules.specs.Rules.{nothingWritten, received, receives, proposalRule}
 use Rattle.number_checks.specs.Numbers.{limit}
-use Rattle.rules.specs.Refusals.{wellFormed, Event, aProposal, refusalOf, ruleOf, Result, stepOf}
-use Rattle.rule_laws.proofs.Steps.{accepted, Refused, Accepts, Passes, well-facts, check-facts, facts-check, step-accepts, step-cases}
+use Rattle.rules.specs.Refusals.{wellFormed, Event, aProposal, refusalOf, ruleOf, Result, takeOf}
+use Rattle.rule_laws.proofs.Steps.{accepted, Refused, Takes, Passes, well-facts, check-facts, facts-check, take-accepts, take-cases}
 use Rattle.rule_laws.proofs.Parts.{received-reads}
-use Rattle.rule_laws.proofs.Encoded.{proposal-event, sender-stays}
 use Rattle.rule_laws.proofs.Walk.{staged-proposal}
 use Rattle.runs.specs.World.{Item, World, delivery, without, answered, withLink, proposalAnswer, to-proposal, Among}
 use Rattle.runs.specs.Begins.{InF}
@@ -67,12 +65,8 @@ module _ (F : ℕ → Bool) where
     abbrev own-state : State
     own-state = w .state me
 
-    abbrev bytes : List ℕ
-    bytes = encodeProposal (x .proposal)
-
-    -- the proposal as its bytes are read
     abbrev p : Proposal
-    p = decodeProposal bytes
+    p = x .proposal
 
     abbrev Acted : Type 0
     Acted = (h : Offices) × Happens F w (delivery i me room) g h × SeenAll F (answered (withLink w i me l) me (proposalAnswer w me (x .proposal) room)) h
@@ -93,7 +87,7 @@ module _ (F : ℕ → Bool) where
     of-link P h = let k : Every P (x ∷ l) = rw front at h in (every-head k, every-tail k)
 
     from-i : p .sender ≡ i
-    from-i = sender-stays (x .proposal) ∙ of-link (λ y. y .proposal .sender ≡ i) (seen .named i me i-below (q .0)) .0
+    from-i = of-link (λ y. y .proposal .sender ≡ i) (seen .named i me i-below (q .0)) .0
 
     -- between offices of F it is read as it was sent
     module _ (from : InF F i) where
@@ -104,7 +98,7 @@ module _ (F : ℕ → Bool) where
       valid = of-link (λ y. Valid i me (y .proposal)) (seen .valid i me linked-from) .0
 
       as-sent : p ≡ x .proposal
-      as-sent = proposal-back (x .proposal) (valid .fits)
+      as-sent = refl
 
       old-link : g .link i me ≡ x ∷ l
       old-link = sym (seen .links i me linked-from) ∙ front
@@ -130,13 +124,12 @@ module _ (F : ℕ → Bool) where
             behind = rw (sim-me .own, n) u;
           }
 
-      accepted-or : Accepts own-state bytes room ⊎ (Refused own-state (stepOf own-state bytes room) × Barred (stepOf own-state bytes room))
+      accepted-or : Takes own-state (aProposal p) room ⊎ (Refused own-state (takeOf own-state (aProposal p) room) × Barred (takeOf own-state (aProposal p) room))
       accepted-or =
-          accepted-or-barred own-state bytes room (aProposal (x .proposal)) (good-me .passes) (proposal-checked (x .proposal) (valid .fits))
-          (proposal-event (x .proposal) ∙ ap aProposal as-sent) (facts-check own-state (x .proposal) facts)
+          accepted-or-barred own-state (aProposal p) room (good-me .passes) (facts-check own-state (x .proposal) facts)
 
     -- refused: the front of the link is lost
-    module _ (r : Refused own-state (stepOf own-state bytes room)) where
+    module _ (r : Refused own-state (takeOf own-state (aProposal p) room)) where
       refused-seen : (h : Offices) → Seen F me (withLink w i me l) h → Sim own-state h me
           → SeenAll F (answered (withLink w i me l) me (proposalAnswer w me (x .proposal) room)) h
       unfolding proposalAnswer answered withLink
@@ -151,7 +144,7 @@ module _ (F : ℕ → Bool) where
       refused-outside out =
           (g, idles {e = delivery i me room} (λ a b. absurd (out a)), refused-seen g (seen-linked F w g g me i me l seen (taken-outside w g i me x l seen front me out)) sim-me)
 
-      refused-from : InF F i → Barred (stepOf own-state bytes room) → Acted
+      refused-from : InF F i → Barred (takeOf own-state (aProposal p) room) → Acted
       unfolding relink proposalAnswer
       refused-from from b =
           let f : FromF F i me = (from, q .0, apart) in
@@ -163,18 +156,16 @@ module _ (F : ℕ → Bool) where
           )
 
     -- accepted
-    module _ (acc : Accepts own-state bytes room) where
+    module _ (acc : Takes own-state (aProposal p) room) where
       accepted-as : proposalAnswer w me (x .proposal) room ≡ accepted (proposalRule own-state p)
       unfolding proposalAnswer
-      accepted-as = step-accepts own-state bytes room acc
-          ∙ ap (λ (e : Event). accepted (ruleOf own-state e)) (proposal-event (x .proposal))
+      accepted-as = take-accepts own-state (aProposal p) room acc
 
       within-limit : wellFormed (proposalRule own-state p .state) ≡ true
-      within-limit = rw (proposal-event (x .proposal)) at (acc .acts .within)
+      within-limit = acc .acts .within
 
       passed : Passes own-state p
-      passed = check-facts own-state p
-          (sym (ap (refusalOf own-state) (proposal-event (x .proposal))) ∙ acc .acts .passes)
+      passed = check-facts own-state p (acc .acts .passes)
 
       arrives : Arrives F g me i p l
       arrives = record {
@@ -284,14 +275,14 @@ module _ (F : ℕ → Bool) where
     pub delivery-acts : Acted
     delivery-acts = go (F i) refl
       where
-        from : InF F i → Accepts own-state bytes room ⊎ (Refused own-state (stepOf own-state bytes room) × Barred (stepOf own-state bytes room)) → Acted
+        from : InF F i → Takes own-state (aProposal p) room ⊎ (Refused own-state (takeOf own-state (aProposal p) room) × Barred (takeOf own-state (aProposal p) room)) → Acted
         from f (inl a) = accepted-acts a
         from f (inr r) = refused-from (r .0) f (r .1)
 
-        outside : (InF F i → ⊥) → Refused own-state (stepOf own-state bytes room) ⊎ Accepts own-state bytes room → Acted
+        outside : (InF F i → ⊥) → Refused own-state (takeOf own-state (aProposal p) room) ⊎ Takes own-state (aProposal p) room → Acted
         outside o (inl r) = refused-outside r o
         outside o (inr a) = accepted-acts a
 
         go : (t : Bool) → F i ≡ t → Acted
         go true e = from (i-below, e) (accepted-or (i-below, e))
-        go false e = outside (λ f. true-false _ (f .1) e) (step-cases own-state bytes room)
+        go false e = outside (λ f. true-false _ (f .1) e) (take-cases own-state (aProposal p) room)

@@ -15,51 +15,46 @@ use Rattle.laws.specs.Lists.{runs}
 use Rattle.laws.specs.Upd.{ifb, upd}
 use Rattle.laws.proofs.Fin.{if-same}
 use Rattle.laws.proofs.Upd.{upd-same, upd-other, upd-cases}
-use Rattle.records.specs.Layout.{encodeReport, encodeProposal, decodeProposal}
-use Rattle.records.specs.Fits.{FitsReport}
 use Rattle.records.specs.declared.Report.{Report}
 use Rattle.records.specs.declared.Proposal.{Proposal}
 use Rattle.rules.specs.State.{State}
 use Rattle.rules.specs.Rules.{Outcome, netAfter, fresh, reportRule}
-use Rattle.rules.specs.Refusals.{aReport, eventOf, ruleOf, Result, stepOf}
-use Rattle.rule_laws.proofs.Steps.{accepted, Refused, Accepts, step-accepts, step-cases}
+use Rattle.rules.specs.Refusals.{Event, aReport, aProposal, ruleOf, Result, takeOf}
+use Rattle.rule_laws.proofs.Steps.{accepted, Refused, Takes, take-accepts, take-cases}
 use Rattle.rule_laws.proofs.Repeats.{net-repeat, repeat-rule}
 use Rattle.rule_laws.proofs.Parts.{fresh-reads}
-use Rattle.rule_laws.proofs.Encoded.{report-event, proposal-event}
 use Rattle.runs.specs.World.{Item, World, atFirst, WorldEvent, report, delivery, loss, answered, withLink, idle, delivered, reportAnswer, proposalAnswer, next, run, at, Nth, netOne, netBy, Among}
 use Rattle.runs.specs.Begins.{AllAmong}
 use Rattle.runs.proofs.Proposals.{report-net, proposal-net}
 
 -- the net view after a step
-step-net : (s : State) (b : List ℕ) (room net : ℕ) → ((a : Accepts s b room) → ruleOf s (eventOf b) .state .net .bits ≡ net)
-    → stepOf s b room .state .net .bits ≡ ifb (eqb (stepOf s b room .refusal) 0) net (s .net .bits)
-step-net s b room net f = go (step-cases s b room)
+step-net : (s : State) (e : Event) (room net : ℕ) → ruleOf s e .state .net .bits ≡ net
+    → takeOf s e room .state .net .bits ≡ ifb (eqb (takeOf s e room .refusal) 0) net (s .net .bits)
+step-net s e room net f = go (take-cases s e room)
   where
-    go : Refused s (stepOf s b room) ⊎ Accepts s b room → stepOf s b room .state .net .bits ≡ ifb (eqb (stepOf s b room .refusal) 0) net (s .net .bits)
-    go (inl r) = rw (ne-eqb (stepOf s b room .refusal) 0 (r .reason)) (ap (λ (q : Result). q .state .net .bits) (r .is))
-    go (inr a) = rw (step-accepts s b room a) (f a)
+    go : Refused s (takeOf s e room) ⊎ Takes s e room → takeOf s e room .state .net .bits ≡ ifb (eqb (takeOf s e room .refusal) 0) net (s .net .bits)
+    go (inl r) = rw (ne-eqb (takeOf s e room .refusal) 0 (r .reason)) (ap (λ (q : Result). q .state .net .bits) (r .is))
+    go (inr a) = rw (take-accepts s e room a) f
 
-step-report-net : (s : State) (r : Report) (room : ℕ) → FitsReport r
-    → stepOf s (encodeReport r) room .state .net .bits ≡ ifb (eqb (stepOf s (encodeReport r) room .refusal) 0) (netAfter (s .net .bits) r) (s .net .bits)
-step-report-net s r room f = step-net s (encodeReport r) room _ (λ a. rw (report-event r f) (report-net s r))
+step-report-net : (s : State) (r : Report) (room : ℕ)
+    → takeOf s (aReport r) room .state .net .bits ≡ ifb (eqb (takeOf s (aReport r) room .refusal) 0) (netAfter (s .net .bits) r) (s .net .bits)
+step-report-net s r room = step-net s (aReport r) room _ (report-net s r)
 
-step-proposal-net : (s : State) (p : Proposal) (room : ℕ) → stepOf s (encodeProposal p) room .state .net .bits ≡ s .net .bits
+step-proposal-net : (s : State) (p : Proposal) (room : ℕ) → takeOf s (aProposal p) room .state .net .bits ≡ s .net .bits
 step-proposal-net s p room =
-    step-net s (encodeProposal p) room (s .net .bits)
-    (λ a. rw (proposal-event p) (proposal-net s (decodeProposal (encodeProposal p))))
-    ∙ if-same (eqb (stepOf s (encodeProposal p) room .refusal) 0) (s .net .bits)
+    step-net s (aProposal p) room (s .net .bits) (proposal-net s p) ∙ if-same (eqb (takeOf s (aProposal p) room .refusal) 0) (s .net .bits)
 
 -- an event gives office i the net view that the statement counts
 net-one : (w : World) (e : WorldEvent) (i : ℕ) → Among e → next w e .state i .net .bits ≡ netOne w e i (w .state i .net .bits)
 unfolding next answered reportAnswer
 net-one w (report o r room) i a = go (ℕ-discrete i o)
   where
-    go : Dec (i ≡ o) → upd (w .state) o (stepOf (w .state o) (encodeReport r) room .state) i .net .bits
-        ≡ ifb (eqb o i && eqb (stepOf (w .state o) (encodeReport r) room .refusal) 0) (netAfter (w .state i .net .bits) r) (w .state i .net .bits)
+    go : Dec (i ≡ o) → upd (w .state) o (takeOf (w .state o) (aReport r) room .state) i .net .bits
+        ≡ ifb (eqb o i && eqb (takeOf (w .state o) (aReport r) room .refusal) 0) (netAfter (w .state i .net .bits) r) (w .state i .net .bits)
     go (yes e) =
-        rw (e, upd-same (w .state) o (stepOf (w .state o) (encodeReport r) room .state), eq-eqb o o refl)
-        (step-report-net (w .state o) r room (record { joining = a .1; leaving = a .2 }))
-    go (no n) = rw (upd-other (w .state) o (stepOf (w .state o) (encodeReport r) room .state) i n, ne-eqb o i (λ e. n (sym e)))
+        rw (e, upd-same (w .state) o (takeOf (w .state o) (aReport r) room .state), eq-eqb o o refl)
+        (step-report-net (w .state o) r room)
+    go (no n) = rw (upd-other (w .state) o (takeOf (w .state o) (aReport r) room .state) i n, ne-eqb o i (λ e. n (sym e)))
 net-one w (delivery a b room) i m = go (w .link a b)
   where
     go : (l : List Item) → delivered w a b room l .state i .net .bits ≡ w .state i .net .bits
@@ -90,24 +85,18 @@ changing-report w (report o r room) i x n = go (eqb o i) refl
 pub unchanged-silent : (w : World) (o room : ℕ) (r : Report) → Among (report o r room)
     → next w (report o r room) .state o .net .bits ≡ w .state o .net .bits → reportAnswer w o r room .written ≡ []
 unfolding next answered reportAnswer
-unchanged-silent w o room r m e = go (step-cases s b room)
+unchanged-silent w o room r m e = go (take-cases s (aReport r) room)
   where
     s : State
     s = w .state o
 
-    b : List ℕ
-    b = encodeReport r
-
-    read : eventOf b ≡ aReport r
-    read = report-event r (record { joining = m .1; leaving = m .2 })
-
-    go : Refused s (stepOf s b room) ⊎ Accepts s b room → stepOf s b room .written ≡ []
+    go : Refused s (takeOf s (aReport r) room) ⊎ Takes s (aReport r) room → takeOf s (aReport r) room .written ≡ []
     go (inl f) = ap (λ (q : Result). q .written) (f .is)
     go (inr a) =
-        let did : stepOf s b room ≡ accepted (reportRule s r) = step-accepts s b room a ∙ rw read in
+        let did : takeOf s (aReport r) room ≡ accepted (reportRule s r) = take-accepts s (aReport r) room a in
         let same : netAfter (s .net .bits) r ≡ s .net .bits
         = sym (report-net s r) ∙ ap (λ (q : Result). q .state .net .bits) (sym did)
-        ∙ ap (λ (t : State). t .net .bits) (sym (upd-same (w .state) o (stepOf s b room .state))) ∙ e in
+        ∙ ap (λ (t : State). t .net .bits) (sym (upd-same (w .state) o (takeOf s (aReport r) room .state))) ∙ e in
         ap (λ (q : Result). q .written) did ∙ ap (λ (u : Outcome). u .written) (repeat-rule s r (net-repeat s r same))
 
 -- by the reports of the list up to event n, and one event more

@@ -19,12 +19,12 @@ use Rattle.rules.specs.Rules.{andThen, fresh, netAfter, withNet, repeats, seate
 use Rattle.rules.specs.Rules.{ownProposal, proposed, receives, proposesFast, received, matching, matchingSlow, aboveOwn, usesOwn, slowCalled}
 use Rattle.rules.specs.Rules.{joinedNumber, slowNumber, proposesSlow, slowTest, agreesKind, isNone, agreed, startOf, viewOf, concluded}
 use Rattle.rules.specs.Rules.{agreementTest, tests, changeRule, reportRule, proposalRule}
-use Rattle.rules.specs.Refusals.{slotWithin, wellFormed, unreadable, eventOf, wrongSender, wrongKind, wrongNumber, withoutSeat}
-use Rattle.rules.specs.Refusals.{strayUsed, notAbove, usedAhead, proposalChecks, accepting, actOf, stepOf}
+use Rattle.rules.specs.Refusals.{slotWithin, wellFormed, aReport, aProposal, unreadable, eventOf, wrongSender, wrongKind, wrongNumber, withoutSeat}
+use Rattle.rules.specs.Refusals.{strayUsed, notAbove, usedAhead, proposalChecks, accepting, actOf, takeOf}
 use Rattle.runs.specs.Office.{Input, answerTo, LogEntry, stateAfter, logOf, Before, at-once, testedIn, CountedAt}
 
 abbrev joins : ℕ → Input
-joins x = record { bytes = encodeReport (record { joining = record { bits = x }; leaving = record { bits = 0 } }); room = 182 }
+joins x = record { event = aReport (record { joining = record { bits = x }; leaving = record { bits = 0 } }); room = 182 }
 
 -- sixteen numbers, those of offices 0 and 1 first
 abbrev two : ℕ → ℕ → List ℕ
@@ -36,7 +36,7 @@ made sender members start number used =
 
 -- what is handed in: the seats 0 and 4 join, and the proposal of office 1 arrives
 abbrev fromOffice1 : Input
-fromOffice1 = record { bytes = encodeProposal (made 1 0b10001 1 1 zeros); room = 182 }
+fromOffice1 = record { event = aProposal (made 1 0b10001 1 1 zeros); room = 182 }
 
 abbrev threeDays : List Input
 threeDays = joins 0b1 ∷ joins 0b10000 ∷ fromOffice1 ∷ []
@@ -59,7 +59,7 @@ unfolding runs upd allb anyb largest tab bytesAll bit has unionOf withoutOf serv
     markOf formFor formOf checkFor checkOf andThen fresh netAfter withNet repeats seated opened noticeOf opens nextNumber ownProposal proposed receives
     proposesFast received matching matchingSlow aboveOwn usesOwn slowCalled joinedNumber slowNumber proposesSlow slowTest agreesKind isNone
     agreed startOf viewOf concluded agreementTest tests changeRule reportRule proposalRule slotWithin wellFormed unreadable eventOf wrongSender wrongKind
-    wrongNumber withoutSeat strayUsed notAbove usedAhead proposalChecks accepting actOf stepOf answerTo logOf testedIn
+    wrongNumber withoutSeat strayUsed notAbove usedAhead proposalChecks accepting actOf takeOf answerTo logOf testedIn
 days-count = (
   at-once refl (List·Memᴰ·tail (List·Memᴰ·head refl)),
   record { seen = viewA; sent = List·Memᴰ·tail (List·Memᴰ·head refl); office = omega arith; member = refl; stored = refl },

@@ -7,7 +7,7 @@ use Rattle.rules.specs.State.{State}
 use Rattle.rules.specs.Rules.{fresh}
 use Rattle.rules.specs.Refusals.{wellFormed}
 use Rattle.rule_laws.proofs.Parts.{fresh-reads}
-use Rattle.rule_laws.proofs.Steps.{step-well, fresh-well}
+use Rattle.rule_laws.proofs.Steps.{take-well, fresh-well}
 use Rattle.runs.specs.Office.{Input, answerTo, nextState, LogEntry, stateAfter, logOf}
 use Rattle.runs.proofs.OfficeRuns.{after-keeps, log-keeps}
 use Rattle.runs.proofs.OfficeViews.{answer-ends}
@@ -22,7 +22,7 @@ fresh-standing own lt = record { office = fresh-reads own .own-is; well = fresh-
 
 standing-keeps : (own : ℕ) (s : State) (h : Input) → Standing own s → Standing own (nextState s h)
 unfolding answerTo
-standing-keeps own s h k = record { office = answer-ends s h .0 .own ∙ k .office; well = step-well s (h .bytes) (h .room) (k .well) }
+standing-keeps own s h k = record { office = answer-ends s h .0 .own ∙ k .office; well = take-well s (h .event) (h .room) (k .well) }
 
 module _ (own : ℕ) (lt : own < 16) (hs : List Input) where
   pub fresh-after : Standing own (stateAfter (fresh own) hs)

@@ -18,10 +18,10 @@ use Rattle.records.specs.declared.View.{View}
 use Rattle.rules.specs.State.{Mode, None, Fast, Slow, Slot, State, storedAt, usedAt}
 use Rattle.rules.specs.Rules.{notice, proposal, view, Outcome, nothingWritten, andThen, fresh, netAfter, withNet, opened, noticeOf, opens, nextNumber, proposesFast, received, inSlot}
 use Rattle.rules.specs.Rules.{slowCalled, beginsIn, slowNumber, proposesSlow, slowTest, agreed, startOf, viewOf, concluded, reportRule, proposalRule}
-use Rattle.rules.specs.Refusals.{Event, aReport, aProposal, eventOf, refusalOf, ruleOf, Result, stepOf}
+use Rattle.rules.specs.Refusals.{Event, aReport, aProposal, refusalOf, ruleOf, Result, takeOf}
 use Rattle.rule_laws.proofs.Parts.{fresh-reads, concluded-reads}
 use Rattle.rule_laws.proofs.Tests.{next-above, slow-above, agreed-out}
-use Rattle.rule_laws.proofs.Steps.{check-facts, Refused, Accepts, step-cases, step-accepts}
+use Rattle.rule_laws.proofs.Steps.{check-facts, Refused, Takes, take-cases, take-accepts}
 use Rattle.rule_laws.proofs.Written.{NoView, fast-every}
 use Rattle.rule_laws.proofs.Walk.{slowRound, concludes, Tested, staged-report, staged-proposal}
 use Rattle.runs.specs.Office.{Input, answerTo, nextState, LogEntry, answerOf, logOf, Before, testedIn, testedAt, CountedAt}
@@ -155,16 +155,16 @@ event-ends s (aProposal p) z = proposal-ends s p z
 
 -- the same of what is handed, accepted or not
 pub answer-ends : (s : State) (h : Input) → Renews s (nextState s h)
-    × ((v : View) → List·Memᴰ (view v) (answerTo s h .written) → ViewSent s (testedIn s (eventOf (h .bytes))) v (nextState s h))
+    × ((v : View) → List·Memᴰ (view v) (answerTo s h .written) → ViewSent s (testedIn s (h .event)) v (nextState s h))
 unfolding answerTo
-answer-ends s h = go (step-cases s (h .bytes) (h .room))
+answer-ends s h = go (take-cases s (h .event) (h .room))
   where
     Ends : Result → Type 0
-    Ends r = Renews s (r .state) × ((v : View) → List·Memᴰ (view v) (r .written) → ViewSent s (testedIn s (eventOf (h .bytes))) v (r .state))
+    Ends r = Renews s (r .state) × ((v : View) → List·Memᴰ (view v) (r .written) → ViewSent s (testedIn s (h .event)) v (r .state))
 
-    go : Refused s (stepOf s (h .bytes) (h .room)) ⊎ Accepts s (h .bytes) (h .room) → Ends (stepOf s (h .bytes) (h .room))
+    go : Refused s (takeOf s (h .event) (h .room)) ⊎ Takes s (h .event) (h .room) → Ends (takeOf s (h .event) (h .room))
     go (inl r) = rw (r .is) (renews-none s, λ v m. absurd (List·Memᴰ·not-nil m))
-    go (inr a) = let x = event-ends s (eventOf (h .bytes)) (a .acts .passes) in rw (step-accepts s (h .bytes) (h .room) a) (x .renews, x .shows)
+    go (inr a) = let x = event-ends s (h .event) (a .acts .passes) in rw (take-accepts s (h .event) (h .room) a) (x .renews, x .shows)
 
 -- no stored proposal has a number above the last one known of its office
 abbrev pub WithinLast : State → Type 0

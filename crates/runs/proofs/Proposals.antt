@@ -19,8 +19,8 @@ use Rattle.records.specs.declared.Notice.{Notice}
 use Rattle.records.specs.declared.View.{View}
 use Rattle.rules.specs.State.{Mode, None, Fast, Slow, State, fast, slow, kindOf, usedAt, usedFor}
 use Rattle.rules.specs.Rules.{Written, notice, proposal, view, Outcome, nothingWritten, andThen, hasRecipient, netAfter, repeats, seated, ownProposal, proposed, opens, slowNumber, nextNumber, proposesSlow, proposesFast, received, reportRule, proposalRule}
-use Rattle.rules.specs.Refusals.{Event, aReport, aProposal, eventOf, stepOf}
-use Rattle.rule_laws.proofs.Steps.{Refused, Accepts, step-accepts, step-cases}
+use Rattle.rules.specs.Refusals.{Event, aReport, aProposal, takeOf}
+use Rattle.rule_laws.proofs.Steps.{Refused, Takes, take-accepts, take-cases}
 use Rattle.rule_laws.proofs.Parts.{withNet-reads, opened-reads, proposed-reads, received-reads, concluded-reads, made-is, made-used}
 use Rattle.rule_laws.proofs.Repeats.{repeat-state, again-repeats}
 use Rattle.rule_laws.proofs.Tests.{slow-above, next-above}
@@ -258,18 +258,17 @@ pub proposal-net : (s : State) (p : Proposal) → proposalRule s p .state .net .
 proposal-net s p = makes-proposal s p .net ∙ received-reads s p .net-is
 
 -- an answer of any office keeps the own office, and the proposals name it
-pub step-names : (s : State) (b : List ℕ) (room : ℕ)
-    → (stepOf s b room .state .own ≡ s .own) × EachProposal (λ p. p .sender ≡ s .own) (stepOf s b room .written)
-step-names s b room = go (step-cases s b room)
+pub step-names : (s : State) (e : Event) (room : ℕ)
+    → (takeOf s e room .state .own ≡ s .own) × EachProposal (λ p. p .sender ≡ s .own) (takeOf s e room .written)
+step-names s e room = go (take-cases s e room)
   where
     arrived-own : (e : Event) → arrived s e .own ≡ s .own
     arrived-own (aReport r) = withNet-reads s (netAfter (s .net .bits) r) .own-is
     arrived-own (aProposal p) = received-reads s p .own-is
 
-    go : Refused s (stepOf s b room) ⊎ Accepts s b room
-        → (stepOf s b room .state .own ≡ s .own) × EachProposal (λ p. p .sender ≡ s .own) (stepOf s b room .written)
+    go : Refused s (takeOf s e room) ⊎ Takes s e room
+        → (takeOf s e room .state .own ≡ s .own) × EachProposal (λ p. p .sender ≡ s .own) (takeOf s e room .written)
     go (inl r) = rw (r .is) (refl, none)
     go (inr a) =
-        let e = eventOf b in
         let m = walk-event making s e in
-        rw (step-accepts s b room a) (m .own ∙ arrived-own e, each-map (λ p k. k .sender ∙ arrived-own e) (m .sends))
+        rw (take-accepts s e room a) (m .own ∙ arrived-own e, each-map (λ p k. k .sender ∙ arrived-own e) (m .sends))

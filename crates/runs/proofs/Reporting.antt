@@ -10,18 +10,15 @@ use Rattle.laws.proofs.Fin.{true-false}
 use Rattle.laws.proofs.Upd.{upd-other}
 use Rattle.offices.specs.Offices.{serves}
 use Rattle.seats.proofs.Laws.{union-lt, without-lt}
-use Rattle.records.specs.Layout.{encodeReport}
 use Rattle.records.specs.Fits.{FitsReport}
-use Rattle.records.proofs.RoundTrip.{report-checked}
 use Rattle.records.specs.declared.Report.{Report}
 use Rattle.rules.specs.State.{State, usedAt}
 use Rattle.rules.specs.Rules.{nothingWritten, netAfter, withNet, repeats, seated, receives, reportRule}
 use Rattle.number_checks.specs.Numbers.{limit}
-use Rattle.rules.specs.Refusals.{wellFormed, Event, aReport, ruleOf, Result, stepOf}
-use Rattle.rule_laws.proofs.Steps.{accepted, Refused, Accepts, well-facts, step-accepts}
+use Rattle.rules.specs.Refusals.{wellFormed, Event, aReport, ruleOf, Result, takeOf}
+use Rattle.rule_laws.proofs.Steps.{accepted, Refused, Takes, well-facts, take-accepts}
 use Rattle.rule_laws.proofs.Repeats.{repeat-net, change-net, repeat-rule}
 use Rattle.rule_laws.proofs.Parts.{withNet-reads}
-use Rattle.rule_laws.proofs.Encoded.{report-event}
 use Rattle.rule_laws.proofs.Walk.{staged-report}
 use Rattle.runs.specs.World.{World, report, answered, reportAnswer, Among}
 use Rattle.runs.specs.Begins.{InF}
@@ -49,9 +46,6 @@ module _ (F : ℕ → Bool) where
     fits : FitsReport rep
     fits = record { joining = among .1; leaving = among .2 }
 
-    abbrev bytes : List ℕ
-    bytes = encodeReport rep
-
     abbrev Acted : Result → Type 0
     Acted r = (h : Offices) × Happens F w (report me rep room) g h × SeenAll F (answered w me r) h
 
@@ -63,7 +57,7 @@ module _ (F : ℕ → Bool) where
         ans = record { is-good = good; own = sim .own; sends = none; below = none; names = none }
 
     -- refused: nothing happens
-    refused-acts : Refused mine (stepOf mine bytes room) → Barred (stepOf mine bytes room) → Acted (reportAnswer w me rep room)
+    refused-acts : Refused mine (takeOf mine (aReport rep) room) → Barred (takeOf mine (aReport rep) room) → Acted (reportAnswer w me rep room)
     unfolding reportAnswer answered
     refused-acts r b = (g, refuses q b, subst (λ (z : Result). SeenAll F (answered w me z) g) (sym (r .is)) unmoved)
 
@@ -116,13 +110,13 @@ module _ (F : ℕ → Bool) where
         let e = numbers .own-used me q in
         omega arith
 
-    module _ (accepts : Accepts mine bytes room) where
+    module _ (accepts : Takes mine (aReport rep) room) where
       answer : reportAnswer w me rep room ≡ accepted (reportRule mine rep)
       unfolding reportAnswer
-      answer = step-accepts mine bytes room accepts ∙ ap (λ (e : Event). accepted (ruleOf mine e)) (report-event rep fits)
+      answer = take-accepts mine (aReport rep) room accepts
 
       passes : wellFormed (reportRule mine rep .state) ≡ true
-      passes = rw (report-event rep fits) at (accepts .acts .within)
+      passes = accepts .acts .within
 
       -- the office's answer, where the arrays become k
       ends : (k : Offices) → Moved (w .clock) me (renet g me made-net) (reportRule mine rep) k
@@ -179,8 +173,8 @@ module _ (F : ℕ → Bool) where
           go false c false e = unseated c e
 
     pub report-acts : Acted (reportAnswer w me rep room)
-    report-acts = go (accepted-or-barred mine bytes room (aReport rep) (good .passes) (report-checked rep) (report-event rep fits) refl)
+    report-acts = go (accepted-or-barred mine (aReport rep) room (good .passes) refl)
       where
-        go : Accepts mine bytes room ⊎ (Refused mine (stepOf mine bytes room) × Barred (stepOf mine bytes room)) → Acted (reportAnswer w me rep room)
+        go : Takes mine (aReport rep) room ⊎ (Refused mine (takeOf mine (aReport rep) room) × Barred (takeOf mine (aReport rep) room)) → Acted (reportAnswer w me rep room)
         go (inl a) = accepted-acts a
         go (inr r) = refused-acts (r .0) (r .1)

@@ -9,15 +9,15 @@ use Rattle.records.specs.declared.Proposal.{Proposal}
 use Rattle.records.specs.declared.View.{View}
 use Rattle.rules.specs.State.{State, keeping, storedAt}
 use Rattle.rules.specs.Rules.{Written, view, netAfter, withNet, opened, proposesFast, received, slowTest}
-use Rattle.rules.specs.Refusals.{Event, aReport, aProposal, eventOf, Result, stepOf}
+use Rattle.rules.specs.Refusals.{Event, aReport, aProposal, Result, takeOf}
 
--- what is handed to an office: bytes, and an output of length room
+-- what is handed to an office: an event, and an output of length room
 pub record Input : Type 0 where
-  pub bytes : List ℕ
+  pub event : Event
   pub room : ℕ
 
 unfoldable pub answerTo : State → Input → Result
-answerTo s h = stepOf s (h .bytes) (h .room)
+answerTo s h = takeOf s (h .event) (h .room)
 
 abbrev pub nextState : State → Input → State
 nextState s h = answerTo s h .state
@@ -53,7 +53,7 @@ testedIn s (aReport r) = slowTest (proposesFast (opened (withNet s (netAfter (s 
 testedIn s (aProposal p) = slowTest (received s p) .state
 
 abbrev pub testedAt : LogEntry → State
-testedAt e = testedIn (e .before) (eventOf (e .handed .bytes))
+testedAt e = testedIn (e .before) (e .handed .event)
 
 -- a view was sent at this entry, and for office o it counted the proposal p: the one stored when the agreement test found it
 pub record CountedAt (e : LogEntry) (o : ℕ) (p : Proposal) : Type 0 where

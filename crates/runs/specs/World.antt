@@ -7,13 +7,12 @@ use lib.ListN.{length, take, getD}
 use lib.Dec.{eqb}
 use Rattle.laws.specs.Lists.{runs}
 use Rattle.laws.specs.Upd.{upd, ifb}
-use Rattle.records.specs.Layout.{encodeReport, encodeProposal}
 use Rattle.records.specs.declared.Report.{Report}
 use Rattle.records.specs.declared.Proposal.{Proposal}
 use Rattle.records.specs.declared.View.{View}
 use Rattle.rules.specs.State.{State}
 use Rattle.rules.specs.Rules.{Written, notice, proposal, view, netAfter, receives}
-use Rattle.rules.specs.Refusals.{Result, stepOf}
+use Rattle.rules.specs.Refusals.{aReport, aProposal, Result, takeOf}
 
 -- A link is a row of proposals, oldest first. With each stands the clock of the event that sent it.
 pub record Item : Type 0 where
@@ -98,10 +97,10 @@ without (suc n) (x ∷ l) = x ∷ without n l
 
 -- what office o answers to a report, and to a proposal
 unfoldable pub reportAnswer : World → ℕ → Report → ℕ → Result
-reportAnswer w o r room = stepOf (w .state o) (encodeReport r) room
+reportAnswer w o r room = takeOf (w .state o) (aReport r) room
 
 unfoldable pub proposalAnswer : World → ℕ → Proposal → ℕ → Result
-proposalAnswer w o p room = stepOf (w .state o) (encodeProposal p) room
+proposalAnswer w o p room = takeOf (w .state o) (aProposal p) room
 
 abbrev pub delivered : World → ℕ → ℕ → ℕ → List Item → World
 delivered w i j room [] = idle w

@@ -22,7 +22,7 @@ use Rattle.rules.specs.Rules.{proposesFast, received, matching, matchingSlow, a
 use Rattle.rules.specs.Rules.{proposesSlow, slowTest, agreesKind, isNone, agreed, startOf, viewOf, concluded, agreementTest, tests, changeRule, reportRule}
 use Rattle.rules.specs.Rules.{proposalRule}
 use Rattle.rules.specs.Refusals.{slotWithin, wellFormed, unreadable, eventOf, wrongSender, wrongKind, wrongNumber, withoutSeat, strayUsed}
-use Rattle.rules.specs.Refusals.{notAbove, usedAhead, proposalChecks, accepting, actOf, stepOf}
+use Rattle.rules.specs.Refusals.{notAbove, usedAhead, proposalChecks, accepting, actOf, takeOf}
 use Rattle.runs.specs.World.{netOne, netBy, Item, SentView, viewsIn, World, atFirst, WorldEvent, report, delivery, loss, answered, withLink, idle, reportAnswer, proposalAnswer, next, run, at}
 use Rattle.settling.specs.Statement.{onWay, deliveries}
 
@@ -235,7 +235,7 @@ unfolding bit bytesAll allb anyb largest sum tab upd has serves unionOf withoutO
     markOf formFor formOf checkFor checkOf andThen fresh netAfter withNet repeats seated opened noticeOf opens nextNumber ownProposal proposed receives proposesFast received
     matching matchingSlow aboveOwn usesOwn slowCalled joinedNumber slowNumber proposesSlow slowTest agreesKind isNone agreed startOf viewOf
     concluded agreementTest tests changeRule reportRule proposalRule slotWithin wellFormed unreadable eventOf wrongSender wrongKind wrongNumber withoutSeat
-    strayUsed notAbove usedAhead proposalChecks accepting actOf stepOf atFirst answered withLink idle reportAnswer proposalAnswer next runs netBy countOf deliveries
+    strayUsed notAbove usedAhead proposalChecks accepting actOf takeOf atFirst answered withLink idle reportAnswer proposalAnswer next runs netBy countOf deliveries
     followed points changeAt reportAt everywhere holds fails failsByReport reportedLast answersTo pointOf
 summary p =
     let t = pointOf p in

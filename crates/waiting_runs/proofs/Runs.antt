@@ -7,10 +7,10 @@ use native.Mathlib.Omega.{arith}
 use Rattle.laws.proofs.Fin.{true-false}
 use Rattle.rules.specs.State.{State}
 use Rattle.rules.specs.Rules.{fresh}
-use Rattle.rules.specs.Refusals.{eventOf, stepOf}
+use Rattle.rules.specs.Refusals.{takeOf}
 use Rattle.rule_laws.proofs.Parts.{fresh-reads}
 use Rattle.rule_laws.proofs.Tests.{agreeing-in}
-use Rattle.rule_laws.proofs.Steps.{well-facts, Refused, Accepts, step-cases, step-accepts}
+use Rattle.rule_laws.proofs.Steps.{well-facts, Refused, Takes, take-cases, take-accepts}
 use Rattle.runs.specs.Office.{Input, answerTo, nextState, stateAfter}
 use Rattle.runs.proofs.OfficeRuns.{after-keeps}
 use Rattle.runs.proofs.OfficeViews.{answer-ends}
@@ -22,13 +22,13 @@ use Rattle.waiting_runs.proofs.Awaits.{Awaits, event-awaits}
 
 awaits-next : (s : State) (h : Input) → Awaits s → Awaits (nextState s h)
 unfolding answerTo
-awaits-next s h k = go (step-cases s (h .bytes) (h .room))
+awaits-next s h k = go (take-cases s (h .event) (h .room))
   where
-    go : Refused s (stepOf s (h .bytes) (h .room)) ⊎ Accepts s (h .bytes) (h .room) → Awaits (stepOf s (h .bytes) (h .room) .state)
+    go : Refused s (takeOf s (h .event) (h .room)) ⊎ Takes s (h .event) (h .room) → Awaits (takeOf s (h .event) (h .room) .state)
     go (inl r) = rw (r .is) k
     go (inr a) =
-        rw (step-accepts s (h .bytes) (h .room) a)
-        (event-awaits s (eventOf (h .bytes)) (well-facts s (a .well) .own) (a .acts .passes) k)
+        rw (take-accepts s (h .event) (h .room) a)
+        (event-awaits s (h .event) (well-facts s (a .well) .own) (a .acts .passes) k)
 
 awaits-fresh : (own : ℕ) → Awaits (fresh own)
 awaits-fresh own = let none = fresh-reads own .mode-is in record { unmet = λ b v. absurd (b none); own-has = λ b v. absurd (b none) }
