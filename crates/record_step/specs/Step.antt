@@ -8,7 +8,8 @@ use lib.Seq.{sets}
 use Rattle.laws.specs.Upd.{ifb}
 use Rattle.rules.specs.Rules.{Written}
 use Rattle.rules.specs.Refusals.{fullRoom, Result, stepOf, allBytes, size}
-use Rattle.row.specs.Row.{stateOf, wordsOf, isRow, soundRow, lowRow}
+use Rattle.rules.specs.Bounds.{Capped, low as lowNumber}
+use Rattle.row.specs.Row.{stateOf, wordsOf, isRow, soundRow}
 
 -- the refusal or 0, what was written, the words at the end
 pub record RowResult : Type 0 where
@@ -35,5 +36,5 @@ pub record Stepped (q : RowResult) (o : List ℕ) (refusal written : ℕ) (ws′
 -- what the step knows of the words once checks 2 and 3 are passed
 pub record Ready (ws : List ℕ) (low : Bool) (room : ℕ) : Type 0 where
   pub sound : soundRow ws ≡ true
-  pub is-low : low ≡ lowRow ws
+  pub is-low : low ≡ true → Capped lowNumber lowNumber (stateOf ws)
   pub fits : fullRoom ≤ room

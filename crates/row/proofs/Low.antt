@@ -162,6 +162,27 @@ module _ (ws : List ℕ) (e : lowRow ws ≡ true) where
     stored = low-stored;
   }
 
+-- the numbers that an event builds on are low
+pub capped-is : (ws : List ℕ) → leb (getD ws startPlace 0) low && leb (getD ws numberPlace 0) low && leb (getD ws viewPlace 0) low
+    && allb 16 (λ o. leb (getD ws (numbersPlace o + 1) 0) low && leb (getD ws (numbersPlace o) 0) low) ≡ true → Capped low low (stateOf ws)
+unfolding stateOf slotOf
+capped-is ws e =
+    let a = leb (getD ws startPlace 0) low in
+    let b = leb (getD ws numberPlace 0) low in
+    let v = leb (getD ws viewPlace 0) low in
+    let f : ℕ → Bool = λ o. leb (getD ws (numbersPlace o + 1) 0) low && leb (getD ws (numbersPlace o) 0) low in
+    let x = and-l (a && b && v) (allb 16 f) e in
+    let all = and-r (a && b && v) (allb 16 f) e in
+    record {
+      view = leb-true _ low (and-r (a && b) v x);
+      start = leb-true _ low (and-l a b (and-l (a && b) v x));
+      number = leb-true _ low (and-r a b (and-l (a && b) v x));
+      stored = λ o h. rw (row-stored ws o h) (record {
+        start = λ p. leb-true _ low (and-r (leb (getD ws (numbersPlace o + 1) 0) low) _ (allb-out 16 f all o h));
+        number = λ p. leb-true _ low (and-l (leb (getD ws (numbersPlace o + 1) 0) low) _ (allb-out 16 f all o h));
+      });
+    }
+
 -- a row passes the test for one
 pub is-row : (ws : List ℕ) → Row ws → isRow ws ≡ true
 unfolding isRow

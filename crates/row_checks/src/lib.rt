@@ -11,7 +11,9 @@ ghost use Rattle.laws.specs.Fin.{allb};
 ghost use Rattle.rules.specs.State.{storedAt};
 ghost use Rattle.number_checks.specs.Numbers.{within};
 ghost use Rattle.rules.specs.Refusals.{slotWithin, wellFormed};
-ghost use Rattle.row.specs.Row.{Row, stateOf, soundRow, lowRow, low, startPlace, numbersCount};
+ghost use mathlib.Core.Bool.{true, _&&_};
+ghost use Rattle.rules.specs.Bounds.{Capped};
+ghost use Rattle.row.specs.Row.{Row, stateOf, soundRow, lowRow, low, startPlace, numbersPlace, numbersCount};
 
 const LAST_OFFICE: u32 = 15;
 
@@ -36,6 +38,32 @@ pub fn is_low(s: &[u32]) -> bool
         return (s[places::OWN] <= LAST_OFFICE) & (all_numbers(s) <= LOW);
     }
     false
+}
+
+// Whether the numbers that an event builds on are all low: start number, proposal number, view number, and of what is stored start and proposal number.
+pub fn is_capped(s: &[u32]) -> bool
+    requires { ⌜ Row (now s) ⌝ }
+    ensures { λ r. ⌜ (r ≡ true → Capped low low (stateOf (now (s .entry)))) ⌝ }
+{
+    (s[places::START] <= LOW)
+        & (s[places::NUMBER] <= LOW)
+        & (s[places::VIEW] <= LOW)
+        & (stored_digits(s) <= LOW)
+}
+
+// The digits of the start and proposal numbers of all slots together.
+fn stored_digits(s: &[u32]) -> u32
+    requires { ⌜ Row (now s) ⌝ }
+    ensures { λ r. ⌜ leb r low ≡ allb 16 (λ o. leb (getD (now (s .entry)) (numbersPlace o + 1) 0) low && leb (getD (now (s .entry)) (numbersPlace o) 0) low) ⌝ }
+{
+    let mut all = 0u32;
+    let mut o: usize = 0;
+    while o < 16 {
+        let at = places::STORED_NUMBERS + places::STORED * o;
+        all = all | s[at] | s[at + places::STORED_NUMBER];
+        o += 1;
+    }
+    all
 }
 
 fn is_well_formed(s: &[u32]) -> bool

@@ -10,12 +10,13 @@ ghost use mathlib.Core.Bool.{true};
 ghost use Rattle.rules.specs.Rules.{reportRule, proposalRule};
 ghost use Rattle.laws.specs.Checks.{firstOf};
 ghost use Rattle.rules.specs.Refusals.{wellFormed, proposalChecks, aReport, aProposal};
-ghost use Rattle.row.specs.Row.{stateOf, soundRow, lowRow};
+ghost use Rattle.rules.specs.Bounds.{Capped, low as lowNumber};
+ghost use Rattle.row.specs.Row.{stateOf, soundRow};
 ghost use Rattle.trial.specs.Tried.{refusalFrom};
 
 // Check 13 on a report: it makes no number above L. A repeat makes none. Where a number is near L, another report is tried on a copy.
 fn report_within(state: &[u32], low: bool, r: Report) -> bool
-    requires { ⌜ (soundRow (now state) ≡ true) × (low ≡ lowRow (now state)) ⌝ }
+    requires { ⌜ (soundRow (now state) ≡ true) × (low ≡ true → Capped lowNumber lowNumber (stateOf (now state))) ⌝ }
     ensures { λ t. ⌜ t ≡ wellFormed (reportRule (stateOf (now (state .entry))) r .state) ⌝ }
 {
     if low {
@@ -33,7 +34,7 @@ fn report_within(state: &[u32], low: bool, r: Report) -> bool
 
 // Check 13 on a proposal that passes 6 to 12.
 fn proposal_within(state: &[u32], low: bool, p: Proposal) -> bool
-    requires { ⌜ (soundRow (now state) ≡ true) × (low ≡ lowRow (now state)) × (firstOf (proposalChecks (stateOf (now state)) p) ≡ 0) ⌝ }
+    requires { ⌜ (soundRow (now state) ≡ true) × (low ≡ true → Capped lowNumber lowNumber (stateOf (now state))) × (firstOf (proposalChecks (stateOf (now state)) p) ≡ 0) ⌝ }
     ensures { λ t. ⌜ t ≡ wellFormed (proposalRule (stateOf (now (state .entry))) p .state) ⌝ }
 {
     if low & (p.start <= LOW) & (p.number <= LOW) {
@@ -48,7 +49,7 @@ fn proposal_within(state: &[u32], low: bool, p: Proposal) -> bool
 
 // The refusal of a report whose number by checks 4 and 5 is handed in, 0 where every check passes.
 pub fn report(state: &[u32], low: bool, unread: u8, r: Report) -> u8
-    requires { ⌜ (soundRow (now state) ≡ true) × (low ≡ lowRow (now state)) ⌝ }
+    requires { ⌜ (soundRow (now state) ≡ true) × (low ≡ true → Capped lowNumber lowNumber (stateOf (now state))) ⌝ }
     ensures { λ n. ⌜ n ≡ refusalFrom unread (stateOf (now (state .entry))) (aReport r) ⌝ }
 {
     if unread != 0 {
@@ -59,7 +60,7 @@ pub fn report(state: &[u32], low: bool, unread: u8, r: Report) -> u8
 
 // The same of a proposal.
 pub fn proposal(state: &[u32], low: bool, unread: u8, p: Proposal) -> u8
-    requires { ⌜ (soundRow (now state) ≡ true) × (low ≡ lowRow (now state)) ⌝ }
+    requires { ⌜ (soundRow (now state) ≡ true) × (low ≡ true → Capped lowNumber lowNumber (stateOf (now state))) ⌝ }
     ensures { λ n. ⌜ n ≡ refusalFrom unread (stateOf (now (state .entry))) (aProposal p) ⌝ }
 {
     if unread != 0 {

@@ -1,5 +1,6 @@
 use mathlib.Core.Path.{sym, _∙_}
 use lib.ListN.{length}
+use Rattle.row.proofs.Low.{low-is}
 use Rattle.checks.proofs.Readiness.{ready-facts}
 use Rattle.record_step.proofs.Exits.{refuse-meets}
 use Rattle.step.proofs.Unready.{exit-unready}
@@ -30,7 +31,7 @@ on-record-requires : tie.Need-on-record-requires
 on-record-requires c κs =
     let a = c .before .before .before .before .before .before .before .before .before .before .args in
     let e = ready-facts (a .state .now) (length (a .out .now)) (sym (c .before .before .before .ready .ensures) ∙ c .before .before .if1 .left) in
-    record { sound = e .0; is-low = c .before .before .before .before .before .is-low .ensures; fits = e .1 }
+    record { sound = e .0; is-low = λ t. low-is (a .state .now) (sym (c .before .before .before .before .before .is-low .ensures) ∙ t); fits = e .1 }
 
 same-length-2 : tie.Need-same-length-2
 same-length-2 c = search needs

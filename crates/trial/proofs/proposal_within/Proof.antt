@@ -11,7 +11,6 @@ use Rattle.rules.specs.Refusals.{aProposal}
 use Rattle.rule_laws.proofs.Steps.{check-facts}
 use Rattle.row.specs.Row.{stateOf, low}
 use Rattle.checks.specs.Checks.{madeWithin}
-use Rattle.row.proofs.Low.{low-is}
 use Rattle.trial.proofs.Lowness.{proposal-stays}
 use Rattle.trial.proofs.Made.{made-is-well}
 use Rattle.row.proofs.Low.{sound-well, sound-row}
@@ -25,7 +24,7 @@ returns c =
     let ws = s .args .state .now in
     let l = leb (s .args .p .start) low in
     let a = and-l (s .args .low && l) (leb (s .args .p .number) low) (c .if1 .taken) in
-    sym (proposal-stays (stateOf ws) (sound-well ws (s .pre .0)) (low-is ws (sym (s .pre .1) ∙ and-l (s .args .low) l a)) (s .args .p) (s .pre .2)
+    sym (proposal-stays (stateOf ws) (sound-well ws (s .pre .0)) (s .pre .1 (and-l (s .args .low) l a)) (s .args .p) (s .pre .2)
     (leb-true _ _ (and-r (s .args .low) l a)) (leb-true _ _ (and-r (s .args .low && l) _ (c .if1 .taken))))
 
 slice-aggregate-copy : tie.Need-slice-aggregate-copy

@@ -7,7 +7,6 @@ use Rattle.rules.specs.Refusals.{wellFormed, aReport}
 use Rattle.rule_laws.proofs.Repeats.{repeat-rule, change-rule}
 use Rattle.row.specs.Row.{stateOf}
 use Rattle.checks.specs.Checks.{madeWithin}
-use Rattle.row.proofs.Low.{low-is}
 use Rattle.trial.proofs.Lowness.{report-stays}
 use Rattle.trial.proofs.Made.{made-is-well}
 use Rattle.row.proofs.Low.{sound-well, sound-row}
@@ -19,7 +18,7 @@ returns : tie.Need-returns
 returns c =
     let s = c .before .before in
     let ws = s .args .state .now in
-    sym (report-stays (stateOf ws) (sound-well ws (s .pre .0)) (low-is ws (sym (s .pre .1) ∙ c .if1 .taken)) (s .args .r))
+    sym (report-stays (stateOf ws) (sound-well ws (s .pre .0)) (s .pre .1 (c .if1 .taken)) (s .args .r))
 
 is-repeat-requires : tie.Need-is-repeat-requires
 is-repeat-requires c κs = let s = c .before .before in sound-row (s .args .state .now) (s .pre .0)
