@@ -10,7 +10,7 @@ use Rattle.records.specs.declared.Report.{Report}
 use Rattle.rules.specs.State.{State}
 use Rattle.rules.specs.Rules.{nothingWritten, netAfter, withNet, repeats, seated, changeRule}
 use Rattle.rule_laws.proofs.Recipients.{seated-is}
-use Rattle.row.specs.Changes.{withNetSet}
+use Rattle.rules.specs.State.{withNetSet}
 use Rattle.parts.specs.Parts.{fastRound}
 
 -- the net view with joining, then without leaving

@@ -14,7 +14,7 @@ use Rattle.rules.specs.Refusals.{wellFormed}
 use Rattle.rules.specs.Bounds.{Capped}
 use Rattle.rule_laws.proofs.Steps.{well-facts}
 use Rattle.rule_laws.proofs.Bounds.{capped-le, opened-capped, proposed-capped, received-capped, next-capped, slowNumber-capped, start-capped}
-use Rattle.row.specs.Changes.{withNetSet}
+use Rattle.rules.specs.State.{withNetSet}
 use Rattle.parts.specs.Bounds.{Bounded}
 
 pub well-bounded : (s : State) → wellFormed s ≡ true → Bounded limit s

@@ -10,7 +10,7 @@ use Rattle.records.specs.declared.Proposal.{Proposal}
 use Rattle.rules.specs.State.{Mode, Fast, Slow, State, keeping, storedAt}
 use Rattle.rules.specs.Rules.{notice, proposal, nothingWritten, opened, noticeOf, opens, nextNumber, ownProposal, proposed, hasRecipient, proposesFast, slowNumber, proposesSlow}
 use Rattle.rule_laws.proofs.Parts.{made-is}
-use Rattle.row.specs.Changes.{withMode, withNumber, withStart, withStored}
+use Rattle.rules.specs.State.{withMode, withNumber, withStart, withStored}
 use Rattle.parts.specs.Parts.{countedAt}
 use Rattle.parts.proofs.Dids.{one}
 

@@ -17,7 +17,7 @@ use Rattle.records.specs.declared.View.{View}
 use Rattle.rules.specs.State.{None, Slot, State, nothing, storedAt, usedAt, numberIn}
 use Rattle.rules.specs.Rules.{viewOf, concluded}
 use Rattle.row.specs.Row.{stateOf}
-use Rattle.row.specs.Changes.{withMode, withView}
+use Rattle.rules.specs.State.{withMode, withView}
 use Rattle.row.proofs.Words.{state-shaped}
 use Rattle.round_end.specs.Emptied.{among, emptying, emptied}
 

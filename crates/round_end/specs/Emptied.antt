@@ -6,7 +6,7 @@ use Rattle.laws.specs.Tab.{tab}
 use Rattle.laws.specs.Upd.{ifb}
 use Rattle.offices.specs.Offices.{serves}
 use Rattle.rules.specs.State.{State, nothing, storedAt, usedAt, numberIn}
-use Rattle.row.specs.Changes.{withStored, withUsed}
+use Rattle.rules.specs.State.{withStored, withUsed}
 
 -- the used number of office o becomes its proposal's number, and its stored proposal becomes nothing
 abbrev pub emptying : ℕ → State → State

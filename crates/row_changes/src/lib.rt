@@ -11,7 +11,7 @@ ghost use lib.ListN.{length};
 ghost use Rattle.rules.specs.Rules.{fresh};
 ghost use Rattle.row.specs.Row.{rowLength, Row, wordsOf, modeOf};
 ghost use Rattle.row.specs.Changes.{Changed};
-ghost use Rattle.row.specs.Changes.{withMode, withNetSet, withStart, withNumber, withView, withAccepted, withUsed};
+ghost use Rattle.rules.specs.State.{withMode, withNetSet, withStart, withNumber, withView, withAccepted, withUsed};
 
 pub fn set_mode(s: &mut [u32], kind: u8)
     requires { ⌜ Row (now s) × (kind ≤ 2) ⌝ }

@@ -10,7 +10,8 @@ ghost use Prim.Native.Nat.{_<_};
 ghost use lib.Seq.{sets};
 ghost use Rattle.rules.specs.State.{nothing, keeping};
 ghost use Rattle.row.specs.Row.{Row, setWords, slotPlace, numbersPlace};
-ghost use Rattle.row.specs.Changes.{Changed, withStored};
+ghost use Rattle.row.specs.Changes.{Changed};
+ghost use Rattle.rules.specs.State.{withStored};
 
 pub fn put_stored(s: &mut [u32], o: usize, p: Proposal)
     requires { ⌜ Row (now s) × (o < 16) ⌝ }

@@ -16,7 +16,8 @@ use Rattle.rules.specs.State.{State, Slot, storedAt}
 use Rattle.rules.specs.Rules.{fresh}
 use Rattle.row.specs.Row.{rowLength, ownPlace, modePlace, netPlace, membersPlace, slotPlace, startPlace, numberPlace, viewPlace, startsPlace, acceptedPlace, usedPlace, numbersPlace}
 use Rattle.row.specs.Row.{setWords, slotWords, slotNumbers, modeOf, sixteenWords, slotOf, stateOf, wordsOf, Row}
-use Rattle.row.specs.Changes.{Changed, withMode, withNetSet, withStart, withNumber, withView, withStored, withAccepted, withUsed}
+use Rattle.row.specs.Changes.{Changed}
+use Rattle.rules.specs.State.{withMode, withNetSet, withStart, withNumber, withView, withStored, withAccepted, withUsed}
 use Rattle.row.proofs.Parts.{viewAt, by-parts, row-stored, set-read, sixteen-read, flag-le, slot-read}
 use Rattle.row_stores.proofs.Kept.{kept, in-first, in-second, stores-long, word-kept, slot-kept}
 

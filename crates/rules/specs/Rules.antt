@@ -5,14 +5,14 @@ use Prim.Native.Nat.{ℕ, _+_, max}
 use lib.Dec.{eqb, ltb}
 use Rattle.laws.specs.Fin.{allb, anyb, largest}
 use Rattle.laws.specs.Tab.{tab}
-use Rattle.laws.specs.Upd.{ifb, upd}
+use Rattle.laws.specs.Upd.{ifb}
 use Rattle.seats.specs.Seats.{unionOf, withoutOf}
 use Rattle.offices.specs.Offices.{serves}
 use Rattle.records.specs.declared.Report.{Report}
 use Rattle.records.specs.declared.Proposal.{Proposal}
 use Rattle.records.specs.declared.Notice.{Notice}
 use Rattle.records.specs.declared.View.{View}
-use Rattle.rules.specs.State.{Mode, None, Fast, Slow, State, slow, kindOf, zeros, nothing, keeping, storedAt, acceptedAt, usedAt, usedFor, numberIn}
+use Rattle.rules.specs.State.{Mode, None, Fast, Slow, State, slow, kindOf, zeros, nothing, keeping, storedAt, acceptedAt, usedAt, usedFor, numberIn, withMode, withNetSet, withStored, withAccepted, withStart, withNumber}
 
 -- a record written: to this office's seats, to the other offices, to this office's seats
 pub data Written : Type 0 where
@@ -52,18 +52,7 @@ unfoldable pub netAfter : ℕ → Report → ℕ
 netAfter net r = withoutOf (unionOf net (r .joining .bits)) (r .leaving .bits)
 
 unfoldable pub withNet : State → ℕ → State
-withNet s net =
-    record {
-      own = s .own;
-      mode = s .mode;
-      net = record { bits = net };
-      stored = s .stored;
-      accepted = s .accepted;
-      view = s .view;
-      start = s .start;
-      number = s .number;
-      used = s .used;
-    }
+withNet s net = withNetSet (record { bits = net }) s
 
 -- A repeat: a report that leaves the net view equal to what it was.
 unfoldable pub repeats : State → Report → Bool
@@ -75,18 +64,7 @@ seated s = serves (s .net .bits) (s .own)
 
 -- Step 3: the start number rises and a start notice with the net view is written. (The mode is set where the proposal is made.)
 unfoldable pub opened : State → State
-opened s =
-    record {
-      own = s .own;
-      mode = s .mode;
-      net = s .net;
-      stored = s .stored;
-      accepted = s .accepted;
-      view = s .view;
-      start = max (s .view .number) (s .start + 1);
-      number = s .number;
-      used = s .used;
-    }
+opened s = withStart (max (s .view .number) (s .start + 1)) s
 
 unfoldable pub noticeOf : State → Notice
 noticeOf s = record { start = s .start; members = s .net }
@@ -112,18 +90,7 @@ ownProposal m n s =
 
 -- It is stored as the own proposal; the mode is the proposal's.
 unfoldable pub proposed : Mode → ℕ → State → State
-proposed m n s =
-    record {
-      own = s .own;
-      mode = m;
-      net = s .net;
-      stored = tab 16 (upd (storedAt s) (s .own) (keeping (ownProposal m n s)));
-      accepted = s .accepted;
-      view = s .view;
-      start = s .start;
-      number = n;
-      used = s .used;
-    }
+proposed m n s = withMode m (withNumber n (withStored (s .own) (keeping (ownProposal m n s)) s))
 
 -- The recipients of a proposal are the offices of its members except the sender.
 unfoldable pub receives : Proposal → ℕ → Bool
@@ -140,18 +107,7 @@ proposesFast s =
 
 -- A proposal arrives: it replaces what is stored for its sender, and its number becomes the last accepted from it.
 unfoldable pub received : State → Proposal → State
-received s p =
-    record {
-      own = s .own;
-      mode = s .mode;
-      net = s .net;
-      stored = tab 16 (upd (storedAt s) (p .sender) (keeping p));
-      accepted = tab 16 (upd (acceptedAt s) (p .sender) (p .number));
-      view = s .view;
-      start = s .start;
-      number = s .number;
-      used = s .used;
-    }
+received s p = withAccepted (p .sender) (p .number) (withStored (p .sender) (keeping p) s)
 
 -- Slow test. "Matching": a stored proposal of another office whose members equal the net view.
 abbrev pub inSlot : State → ℕ → Proposal

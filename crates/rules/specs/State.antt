@@ -4,7 +4,7 @@ use mathlib.Core.List.{List}
 use Prim.Native.Nat.{ℕ}
 use lib.ListN.{getD}
 use Rattle.laws.specs.Tab.{tab}
-use Rattle.laws.specs.Upd.{ifb}
+use Rattle.laws.specs.Upd.{ifb, upd}
 use Rattle.records.specs.declared.Proposal.{Proposal}
 use Rattle.records.specs.declared.View.{View}
 use Rattle.seats.specs.declared.SeatSet.{SeatSet}
@@ -75,3 +75,36 @@ usedFor p o = getD (p .used) o 0
 -- the number of what is stored; nothing counts as 0
 abbrev pub numberIn : Slot → ℕ
 numberIn v = ifb (v .present) (v .proposal .number) 0
+
+-- A state with one part changed; all else stays.
+abbrev pub withMode : Mode → State → State
+withMode m s =
+    record { own = s .own; mode = m; net = s .net; stored = s .stored; accepted = s .accepted; view = s .view; start = s .start; number = s .number; used = s .used }
+
+abbrev pub withNetSet : SeatSet → State → State
+withNetSet x s =
+    record { own = s .own; mode = s .mode; net = x; stored = s .stored; accepted = s .accepted; view = s .view; start = s .start; number = s .number; used = s .used }
+
+abbrev pub withStored : ℕ → Slot → State → State
+withStored o v s =
+    record { own = s .own; mode = s .mode; net = s .net; stored = tab 16 (upd (storedAt s) o v); accepted = s .accepted; view = s .view; start = s .start; number = s .number; used = s .used }
+
+abbrev pub withAccepted : ℕ → ℕ → State → State
+withAccepted o n s =
+    record { own = s .own; mode = s .mode; net = s .net; stored = s .stored; accepted = tab 16 (upd (acceptedAt s) o n); view = s .view; start = s .start; number = s .number; used = s .used }
+
+abbrev pub withView : View → State → State
+withView v s =
+    record { own = s .own; mode = s .mode; net = s .net; stored = s .stored; accepted = s .accepted; view = v; start = s .start; number = s .number; used = s .used }
+
+abbrev pub withStart : ℕ → State → State
+withStart n s =
+    record { own = s .own; mode = s .mode; net = s .net; stored = s .stored; accepted = s .accepted; view = s .view; start = n; number = s .number; used = s .used }
+
+abbrev pub withNumber : ℕ → State → State
+withNumber n s =
+    record { own = s .own; mode = s .mode; net = s .net; stored = s .stored; accepted = s .accepted; view = s .view; start = s .start; number = n; used = s .used }
+
+abbrev pub withUsed : ℕ → ℕ → State → State
+withUsed o n s =
+    record { own = s .own; mode = s .mode; net = s .net; stored = s .stored; accepted = s .accepted; view = s .view; start = s .start; number = s .number; used = tab 16 (upd (usedAt s) o n) }

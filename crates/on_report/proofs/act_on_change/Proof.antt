@@ -12,7 +12,7 @@ use Rattle.rule_laws.proofs.Steps.{well-facts}
 use Rattle.rule_laws.proofs.Sizes.{change-size}
 use Rattle.records.specs.declared.Report.{Report}
 use Rattle.row.specs.Row.{stateOf}
-use Rattle.row.specs.Changes.{withNetSet}
+use Rattle.rules.specs.State.{withNetSet}
 use Rattle.parts.specs.Parts.{fastRound}
 use Rattle.parts.proofs.Bounding.{well-bounded, net-bounded}
 use Rattle.parts.proofs.Dids.{did-as, did-after, did-quiet, part-fits}
