@@ -3,8 +3,7 @@
 use mathlib.Core.Path.{_≡_, refl}
 use mathlib.Core.List.{List}
 use mathlib.Core.Logic.{_⊎_, inl, inr}
-use Prim.Native.Nat.{ℕ, _<_, _≤_}
-use Rattle.records.specs.Fits.{FitsReport}
+use Prim.Native.Nat.{ℕ, _<_}
 use native.Mathlib.Omega.{arith}
 use lib.Dec.{eqb}
 use Rattle.laws.specs.Big.{Below}
@@ -23,17 +22,9 @@ use Rattle.runs.specs.Office.{Input, answerTo, nextState, stateAfter, logOf, se
 use Rattle.runs.proofs.OfficeRuns.{Beside, beside-run}
 use Rattle.desk_checks.specs.declared.Desk.{Desk}
 use Rattle.desk.specs.Hearing.{freshDesk}
-use Rattle.desk_runs.specs.Sent.{sentTo, hearings, deskAfter}
+use Rattle.desk_runs.specs.Sent.{OfSeats, sentTo, hearings, deskAfter}
 use Rattle.desk_runs.proofs.Taking.{Hears, at-end, hears-then, all-accepted, desk-then}
 use Rattle.desk_runs.proofs.Follows.{Follows, FitsEvent, event-follows}
-
--- the sets handed in are sets of seats, as those of a record that was read are
-abbrev pub OfSeats : Event → Type 0
-OfSeats (aReport r) = FitsReport r
-OfSeats (aProposal p) = 0 ≤ 0
-
-abbrev pub Bytes : Input → Type 0
-Bytes h = OfSeats (h .event)
 
 -- a record that was read is such an event
 pub read-fits : (b : List ℕ) → Below 256 b → OfSeats (eventOf b)
@@ -50,7 +41,7 @@ module _ (seat : ℕ) (lt : seat < seatCount) where
   sets-fit (aProposal p) h = tt
 
   -- what an answer sends, accepted or not
-  next-heard : (d : Desk) (s : State) (h : Input) → Bytes h → Follows seat lt d s → Beside-it d (answerTo s h .written) (nextState s h)
+  next-heard : (d : Desk) (s : State) (h : Input) → OfSeats (h .event) → Follows seat lt d s → Beside-it d (answerTo s h .written) (nextState s h)
   unfolding answerTo
   next-heard d s h y f = go (take-cases s (h .event) (h .room))
     where
@@ -64,8 +55,8 @@ module _ (seat : ℕ) (lt : seat < seatCount) where
           (event-follows seat lt d s (h .event) (sets-fit (h .event) y) (a .acts .passes) (a .acts .within) f)
 
   -- from any state that the seat follows; a fresh start is not needed
-  pub run-heard : (d : Desk) (s : State) (hs : List Input) → Every Bytes hs → Follows seat lt d s → Beside-it d (sentIn (logOf s hs)) (stateAfter s hs)
-  run-heard = beside-run (Hears seat) (Follows seat lt) (λ d. at-end) (λ c d e a b. hears-then seat) Bytes next-heard
+  pub run-heard : (d : Desk) (s : State) (hs : List Input) → Every (λ h. OfSeats (h .event)) hs → Follows seat lt d s → Beside-it d (sentIn (logOf s hs)) (stateAfter s hs)
+  run-heard = beside-run (Hears seat) (Follows seat lt) (λ d. at-end) (λ c d e a b. hears-then seat) (λ h. OfSeats (h .event)) next-heard
 
   -- a fresh seat follows a fresh office
   fresh-follows : Follows seat lt (freshDesk seat) (fresh (officeOf seat))
@@ -79,7 +70,7 @@ module _ (seat : ℕ) (lt : seat < seatCount) where
       }
 
   -- the seat refuses nothing that it is sent, and follows the office at the end
-  module _ (hs : List Input) (y : Every Bytes hs) where
+  module _ (hs : List Input) (y : Every (λ h. OfSeats (h .event)) hs) where
     abbrev sent : List Written
     sent = sentTo seat (sentIn (logOf (fresh (officeOf seat)) hs))
 

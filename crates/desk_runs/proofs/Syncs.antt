@@ -34,9 +34,9 @@ use Rattle.sheet.specs.declared.Along.the-variants as answers
 use Rattle.sheet.specs.Sheet.{recordsOn, counts, syncChecks, cameAlong}
 use Rattle.sheet.specs.Answers.{NoneCounts, GoodRecord, Tells, missing-seat}
 use Rattle.sheet.proofs.Exits.{missing-tells}
-use Rattle.desk_runs.specs.Sent.{forSeat, sentTo, hearings, deskAfter}
+use Rattle.desk_runs.specs.Sent.{OfSeats, forSeat, sentTo, hearings, deskAfter}
 use Rattle.desk_runs.specs.Syncs.{syncAfter, SyncFor}
-use Rattle.desk_runs.proofs.Runs.{Bytes, every-accepted}
+use Rattle.desk_runs.proofs.Runs.{every-accepted}
 
 -- what a sound seat writes is no bad record
 made-good : (d : Desk) → SoundDesk d → GoodRecord (syncBytes d)
@@ -111,7 +111,7 @@ module _ (seat : ℕ) where
       go (inl e) = open-there [] e refl
       go (inr w) = by-last (w .0) (w .1) (w .2 ∙ concat-eq-append (w .0) (w .1))
 
-module _ (seat : ℕ) (lt : seat < seatCount) (hs : List Input) (y : Every Bytes hs) where
+module _ (seat : ℕ) (lt : seat < seatCount) (hs : List Input) (y : Every (λ h. OfSeats (h .event)) hs) where
   pub sync-counts : (heard later : List Written) (v : View) → sentTo seat (sentIn (logOf (fresh (officeOf seat)) hs)) ≡ heard ++ (view v ∷ later)
       → SyncFor seat heard v
   sync-counts heard later v e =
