@@ -2,7 +2,7 @@
 use mathlib.Core.Path.{_≡_, refl, ap}
 use mathlib.Core.Bool.{Bool, true, false, not}
 use mathlib.Core.Logic.{_⊎_, inl, inr, _↔_}
-use mathlib.Core.List.{List}
+use mathlib.Core.List.{List, []}
 use Prim.Native.Nat.{ℕ, suc, _≤_, _<_}
 use native.Mathlib.Omega.{arith}
 use native.Mathlib.Decide.{ℕ-discrete}
@@ -251,6 +251,24 @@ step-cases s b room = go (ℕ-discrete (unreadable s b room) 0) (act-cases s (ev
     go (yes z) (inr a) =
         let f = readable-facts s b room .0 z in
         inr (record { well = f .0; fits = f .1; readable = f .2; acts = a })
+
+-- the step on bytes that pass checks 4 and 5 takes the event that they hold
+pub step-takes : (s : State) (b : List ℕ) (room : ℕ) → checkOf b ≡ 0 → stepOf s b room ≡ takeOf s (eventOf b) room
+unfolding stepOf unreadable takeOf
+step-takes s b room e = go (wellFormed s) refl (ltb room fullRoom) refl
+  where
+    go : (t : Bool) → wellFormed s ≡ t → (u : Bool) → ltb room fullRoom ≡ u → stepOf s b room ≡ takeOf s (eventOf b) room
+    go true p true q = rw (p, q)
+    go true p false q = rw (p, q, e)
+    go false p u q = rw p
+
+-- other bytes leave the state and have nothing written
+pub step-skips : (s : State) (b : List ℕ) (room : ℕ) → (checkOf b ≡ 0 → ⊥) → (stepOf s b room .state ≡ s) × (stepOf s b room .written ≡ [])
+step-skips s b room n = go (step-cases s b room)
+  where
+    go : Refused s (stepOf s b room) ⊎ Accepts s b room → (stepOf s b room .state ≡ s) × (stepOf s b room .written ≡ [])
+    go (inl r) = (ap (λ (q : Result). q .state) (r .is), ap (λ (q : Result). q .written) (r .is))
+    go (inr a) = absurd (n (a .readable))
 
 -- a refusal leaves the state and writes nothing
 pub refused-keeps : (s : State) (b : List ℕ) (room : ℕ) → (stepOf s b room .refusal ≡ 0 → ⊥)
