@@ -6,19 +6,19 @@ use lib.ListN.{length}
 use Rattle.laws.specs.Checks.{firstOf}
 use Rattle.laws.proofs.Lowest.{lowest-same}
 use Rattle.seats.specs.Seats.{seatCount, has, lowestSeat}
-use Rattle.offices.specs.Offices.{packed}
-use Rattle.offices.proofs.Laws.{has-packed}
+use Rattle.seats.specs.Offices.{packed}
+use Rattle.seats.proofs.OfficeLaws.{has-packed}
 use Rattle.records.specs.Layout.{viewMark, viewLength, checkOwn, decodeView, decodeSync}
 use Rattle.records.specs.declared.View.{View}
 use Rattle.records.specs.declared.Sync.{Sync}
-use Rattle.views.specs.declared.ViewRead.{ViewRead}
-use Rattle.views.specs.Read.{readView}
-use Rattle.views.proofs.Reading.{view-refusal, view-decoded}
+use Rattle.record_bytes.specs.declared.views.ViewRead.{ViewRead}
+use Rattle.record_bytes.specs.views.Read.{readView}
+use Rattle.record_bytes.proofs.views.Reading.{view-refusal, view-decoded}
 use Rattle.sheet.specs.declared.Along.the-variants as answers
 use Rattle.sheet.specs.Sheet.{recordsOn, lacksRecord, answerFrom, askChecks, firstBad, cameAlong}
 use Rattle.sheet.proofs.Exits.{along-unread, along-asked, along-bad, along-good}
-use Rattle.sheet_pass.specs.declared.Passed.{Passed}
-use Rattle.sheet_pass.specs.Pass.{foundAfter, passOf}
+use Rattle.came_along.specs.declared.pass.Passed.{Passed}
+use Rattle.came_along.specs.Pass.{foundAfter, passOf}
 use Rattle.came_along.specs.Found.{foundAnswer}
 
 -- what was found after the records answers as they do

@@ -1,1 +1,4 @@
 pub mod Exits
+pub mod Reading
+pub mod Passing
+pub mod Turns

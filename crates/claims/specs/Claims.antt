@@ -5,9 +5,9 @@ use mathlib.Core.List.{List, []}
 use Prim.Native.Nat.{ℕ, _≤_, _<_}
 use Rattle.laws.specs.Lists.{Every}
 use Rattle.seats.specs.Seats.{seatCount}
-use Rattle.offices.specs.Offices.{officeOf}
+use Rattle.seats.specs.Offices.{officeOf}
 use Rattle.records.specs.declared.Proposal.{Proposal}
-use Rattle.run_reader.specs.Run.{readingOf, WholeReading}
+use Rattle.records.specs.Run.{readingOf, WholeReading}
 use Rattle.rules.specs.State.{State}
 use Rattle.rules.specs.Rules.{fresh}
 use Rattle.rules.specs.Refusals.{wellFormed, fullRoom, refused, stepOf, size}

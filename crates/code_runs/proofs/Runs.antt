@@ -14,8 +14,8 @@ use Rattle.runs.specs.Office.{Input, answerTo, nextState, stateAfter, logOf, se
 use Rattle.row.specs.Row.{Row, stateOf}
 use Rattle.row.proofs.Low.{is-row}
 use Rattle.row.proofs.Holds.{Holds}
-use Rattle.record_step.specs.Step.{RowResult}
-use Rattle.record_step.proofs.Exits.{on-row}
+use Rattle.step.specs.Step.{RowResult}
+use Rattle.step.proofs.Exits.{on-row}
 use Rattle.step.proofs.Holds.{step-holds}
 use Rattle.code_runs.specs.Rows.{Handed, rowAnswer, rowAfter, rowSent, inputsOf}
 

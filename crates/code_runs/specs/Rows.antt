@@ -7,7 +7,7 @@ use Rattle.records.specs.Layout.{checkOf}
 use Rattle.rules.specs.Rules.{Written}
 use Rattle.rules.specs.Refusals.{eventOf}
 use Rattle.runs.specs.Office.{Input}
-use Rattle.record_step.specs.Step.{RowResult, stepRow}
+use Rattle.step.specs.Step.{RowResult, stepRow}
 
 -- bytes handed to the step, and an output of length room
 pub record Handed : Type 0 where

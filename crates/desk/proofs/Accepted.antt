@@ -8,19 +8,19 @@ use borrow.Author.Tests.{le-ltb, lt-leb, eq-eqb}
 use Rattle.laws.specs.Checks.{firstOf}
 use Rattle.laws.proofs.Fin.{or-out}
 use Rattle.seats.specs.Seats.{seatCount, containsOf}
-use Rattle.offices.specs.Offices.{officeOf, serves}
-use Rattle.number_checks.specs.Numbers.{limit}
-use Rattle.number_checks.proofs.Laws.{none-above, stray-in}
+use Rattle.seats.specs.Offices.{officeOf, serves}
+use Rattle.records.specs.Numbers.{limit}
+use Rattle.records.proofs.NumberLaws.{none-above, stray-in}
 use Rattle.records.specs.Layout.{encodeNotice, encodeView}
 use Rattle.records.specs.Fits.{FitsNotice, FitsView}
 use Rattle.records.specs.declared.Notice.{Notice}
 use Rattle.records.specs.declared.View.{View}
 use Rattle.records.proofs.RoundTrip.{notice-back, notice-passes, view-back, view-passes}
-use Rattle.desk_checks.specs.declared.Desk.{Desk}
-use Rattle.desk_checks.specs.SeatChecks.{aNotice, aView, tooHigh, lacksSeat, seatChecks}
+use Rattle.desk.specs.declared.checks.Desk.{Desk}
+use Rattle.desk.specs.SeatChecks.{aNotice, aView, tooHigh, lacksSeat, seatChecks}
 use Rattle.desk.specs.Hearing.{afterRecord, hearOf}
 use Rattle.desk.proofs.Laws.{by-notice, by-view, other-mark, hear-accepted}
-use Rattle.desk_checks.proofs.Reasons.{notice-0, view-0}
+use Rattle.desk.proofs.Reasons.{notice-0, view-0}
 
 -- the seat's own numbers pass 6 and 8
 pub record SoundDesk (d : Desk) : Type 0 where

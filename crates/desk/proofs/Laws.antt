@@ -10,8 +10,8 @@ use Rattle.seats.specs.Seats.{seatCount}
 use Rattle.records.specs.Layout.{noticeMark, noticeLength, viewMark, viewLength, checkFor, checkOwn, decodeNotice, decodeView}
 use Rattle.records.proofs.CheckLaws.{own-mark}
 use Rattle.records.proofs.OwnChecks.{by-first, by-second}
-use Rattle.desk_checks.specs.declared.Desk.{Desk}
-use Rattle.desk_checks.specs.SeatChecks.{SeatRecord, aNotice, aView, seatChecks}
+use Rattle.desk.specs.declared.checks.Desk.{Desk}
+use Rattle.desk.specs.SeatChecks.{SeatRecord, aNotice, aView, seatChecks}
 use Rattle.desk.specs.Hearing.{freshDesk, madeDesk, seatRecordOf, checkSeatRecord, hearChecks, afterRecord, hearOf}
 
 module _ (seat : ℕ) where

@@ -3,3 +3,4 @@ pub mod Laws
 mod Readers
 pub mod SyncLaws
 pub mod Taken
+pub mod Reasons

@@ -2,13 +2,13 @@
 use mathlib.Core.Path.{_≡_, sym, ap, _∙_}
 use mathlib.Core.List.{List}
 use Prim.Native.Nat.{ℕ}
-use Rattle.notices.specs.declared.NoticeRead.{NoticeRead}
-use Rattle.notices.specs.Read.{readNotice}
-use Rattle.notices.proofs.Reading.{notice-refusal, notice-decoded}
-use Rattle.views.specs.declared.ViewRead.{ViewRead}
-use Rattle.views.specs.Read.{readView}
-use Rattle.views.proofs.Reading.{view-refusal, view-decoded}
-use Rattle.desk_checks.specs.SeatChecks.{aNotice, aView}
+use Rattle.record_bytes.specs.declared.notices.NoticeRead.{NoticeRead}
+use Rattle.record_bytes.specs.notices.Read.{readNotice}
+use Rattle.record_bytes.proofs.notices.Reading.{notice-refusal, notice-decoded}
+use Rattle.record_bytes.specs.declared.views.ViewRead.{ViewRead}
+use Rattle.record_bytes.specs.views.Read.{readView}
+use Rattle.record_bytes.proofs.views.Reading.{view-refusal, view-decoded}
+use Rattle.desk.specs.SeatChecks.{aNotice, aView}
 use Rattle.desk.proofs.Laws.{SeatRead, by-notice, by-view}
 
 module _ (b : List ℕ) where

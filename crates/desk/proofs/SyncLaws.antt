@@ -7,7 +7,7 @@ use borrow.Author.Tests.{le-leb, lt-leb}
 use Rattle.seats.specs.Seats.{seatCount}
 use Rattle.records.specs.Layout.{encodeSync, decodeSync}
 use Rattle.records.proofs.RoundTrip.{sync-back}
-use Rattle.desk_checks.specs.declared.Desk.{Desk}
+use Rattle.desk.specs.declared.checks.Desk.{Desk}
 use Rattle.desk.specs.Syncing.{syncOf, syncBytes}
 use Rattle.desk.proofs.Accepted.{SoundDesk}
 

@@ -11,12 +11,12 @@ use Rattle.laws.specs.Checks.{numbered, firstOf}
 use Rattle.laws.proofs.Checks.{first-none, no-reason}
 use Rattle.laws.proofs.Fin.{or-l, or-r}
 use Rattle.seats.specs.Seats.{seatCount}
-use Rattle.number_checks.specs.Numbers.{limit}
+use Rattle.records.specs.Numbers.{limit}
 use Rattle.records.specs.Layout.{noticeMark, noticeLength, checkOwn, checkFor, decodeView, encodeView}
 use Rattle.records.specs.declared.View.{View}
 use Rattle.records.proofs.CheckLaws.{long-mark}
-use Rattle.desk_checks.specs.declared.Desk.{Desk}
-use Rattle.desk_checks.specs.SeatChecks.{aView, recordAbove, tooHigh, lacksSeat, strayStart, startFor, unawaitedView, seatChecks}
+use Rattle.desk.specs.declared.checks.Desk.{Desk}
+use Rattle.desk.specs.SeatChecks.{aView, recordAbove, tooHigh, lacksSeat, strayStart, startFor, unawaitedView, seatChecks}
 use Rattle.desk.specs.Hearing.{seatRecordOf, checkSeatRecord, hearChecks, afterRecord, hearOf}
 use Rattle.desk.proofs.Laws.{by-view}
 use Rattle.desk.proofs.Accepted.{SoundDesk}

@@ -7,8 +7,8 @@ use Rattle.laws.specs.Checks.{Check, numbered, firstOf}
 use Rattle.laws.specs.Upd.{ifb}
 use Rattle.seats.specs.Seats.{seatCount}
 use Rattle.records.specs.Layout.{noticeMark, noticeLength, viewMark, viewLength, valueOf, markOf, checkEither, decodeNotice, decodeView}
-use Rattle.desk_checks.specs.declared.Desk.{Desk}
-use Rattle.desk_checks.specs.SeatChecks.{SeatRecord, aNotice, aView, seatChecks}
+use Rattle.desk.specs.declared.checks.Desk.{Desk}
+use Rattle.desk.specs.SeatChecks.{SeatRecord, aNotice, aView, seatChecks}
 use Rattle.desk.specs.declared.Heard.{Heard}
 
 -- a fresh seat

@@ -6,7 +6,7 @@ use Rattle.laws.specs.Upd.{ifb}
 use Rattle.seats.specs.Seats.{seatCount}
 use Rattle.records.specs.Layout.{encodeSync}
 use Rattle.records.specs.declared.Sync.{Sync}
-use Rattle.desk_checks.specs.declared.Desk.{Desk}
+use Rattle.desk.specs.declared.checks.Desk.{Desk}
 
 -- the seat, the last start number, the last view number
 unfoldable pub syncOf : Desk → Sync

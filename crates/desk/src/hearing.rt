@@ -1,14 +1,14 @@
 // Taking a start notice or a view.
 use crate::Heard;
-use desk_checks::Desk;
-use desk_checks::notice_refusal;
-use desk_checks::view_refusal;
-use notices::read_notice;
+use crate::checks::Desk;
+use crate::checks::notice_refusal;
+use crate::checks::view_refusal;
+use record_bytes::notices::read_notice;
+use record_bytes::views::read_view;
 use seats::SEATS;
-use views::read_view;
 ghost use mathlib.Core.Path.{_≡_};
 ghost use Prim.Native.Nat.{_<_};
-ghost use Rattle.notices.specs.Read.{readNotice};
+ghost use Rattle.record_bytes.specs.notices.Read.{readNotice};
 ghost use Rattle.seats.specs.Seats.{seatCount};
 ghost use Rattle.desk.specs.Hearing.{hearOf};
 

@@ -1,10 +1,11 @@
 // The desk's own end: a seat is made, takes start notices and views, and keeps the last start number, the last view number and whether a
 // change is open; after a notice it makes its sync record.
-use desk_checks::Desk;
+use checks::Desk;
 
-pub mod hearing;
-pub mod making;
-pub mod syncing;
+pub mod checks;
+mod hearing;
+mod making;
+mod syncing;
 
 pub use hearing::hear;
 pub use making::fresh_seat;

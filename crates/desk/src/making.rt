@@ -1,6 +1,6 @@
 // Making a seat.
 use crate::Heard;
-use desk_checks::Desk;
+use crate::checks::Desk;
 use seats::SEATS;
 ghost use mathlib.Core.Path.{_≡_};
 ghost use Rattle.desk.specs.Hearing.{freshDesk, madeDesk};

@@ -1,8 +1,8 @@
 // Making a sync record.
-use desk_checks::Desk;
+use crate::checks::Desk;
+use record_bytes::syncs::write_sync;
 use records::Sync;
 use seats::SEATS;
-use syncs::write_sync;
 ghost use Rattle.records.specs.Write.{Placed};
 ghost use Rattle.desk.specs.Syncing.{syncBytes};
 

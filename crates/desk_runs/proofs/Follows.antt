@@ -12,10 +12,10 @@ use Rattle.laws.proofs.Tab.{getD-tab, length-tab}
 use Rattle.laws.proofs.Upd.{upd-same, upd-other}
 use Rattle.seats.specs.Seats.{seatCount, has, containsOf}
 use Rattle.seats.proofs.Laws.{union-lt, without-lt}
-use Rattle.offices.specs.Offices.{officeOf}
-use Rattle.offices.proofs.Laws.{seat-serves}
-use Rattle.number_checks.specs.Numbers.{limit}
-use Rattle.number_checks.proofs.Laws.{sixteen-below}
+use Rattle.seats.specs.Offices.{officeOf}
+use Rattle.seats.proofs.OfficeLaws.{seat-serves}
+use Rattle.records.specs.Numbers.{limit}
+use Rattle.records.proofs.NumberLaws.{sixteen-below}
 use Rattle.records.specs.Fits.{FitsReport, FitsView}
 use Rattle.records.specs.declared.Report.{Report}
 use Rattle.records.specs.declared.Proposal.{Proposal}
@@ -29,8 +29,8 @@ use Rattle.rule_laws.proofs.Tests.{agreed-out}
 use Rattle.rule_laws.proofs.Steps.{WellFormed, well-facts, Passes, check-facts}
 use Rattle.rule_laws.proofs.Walk.{slowRound, concludes, Tested, staged-report, staged-proposal}
 use Rattle.runs.proofs.OfficeRuns.{Beside}
-use Rattle.desk_checks.specs.declared.Desk.{Desk}
-use Rattle.desk_checks.specs.SeatChecks.{aNotice, aView}
+use Rattle.desk.specs.declared.checks.Desk.{Desk}
+use Rattle.desk.specs.SeatChecks.{aNotice, aView}
 use Rattle.desk.specs.Hearing.{afterRecord}
 use Rattle.desk.proofs.Accepted.{SoundDesk, TakesView, notice-heard, view-heard}
 use Rattle.desk_runs.proofs.Taking.{Hears, at-end, passes, accepts, hears-then}

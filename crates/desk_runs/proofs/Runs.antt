@@ -10,7 +10,7 @@ use Rattle.laws.specs.Big.{Below}
 use Rattle.laws.specs.Lists.{Every}
 use Rattle.laws.proofs.Fin.{if-cases}
 use Rattle.seats.specs.Seats.{seatCount}
-use Rattle.offices.specs.Offices.{officeOf}
+use Rattle.seats.specs.Offices.{officeOf}
 use Rattle.records.specs.Layout.{reportMark, valueOf, markOf}
 use Rattle.records.proofs.RoundTrip.{report-fits}
 use Rattle.rules.specs.State.{State}
@@ -20,7 +20,7 @@ use Rattle.rule_laws.proofs.Parts.{fresh-reads}
 use Rattle.rule_laws.proofs.Steps.{Refused, Takes, take-cases, take-accepts}
 use Rattle.runs.specs.Office.{Input, answerTo, nextState, stateAfter, logOf, sentIn}
 use Rattle.runs.proofs.OfficeRuns.{Beside, beside-run}
-use Rattle.desk_checks.specs.declared.Desk.{Desk}
+use Rattle.desk.specs.declared.checks.Desk.{Desk}
 use Rattle.desk.specs.Hearing.{freshDesk}
 use Rattle.desk_runs.specs.Sent.{OfSeats, sentTo, hearings, deskAfter}
 use Rattle.desk_runs.proofs.Taking.{Hears, at-end, hears-then, all-accepted, desk-then}

@@ -9,8 +9,8 @@ use Rattle.laws.specs.Lists.{runs, Every, none, more}
 use Rattle.laws.proofs.Fin.{if-cases}
 use Rattle.laws.proofs.Lists.{runs-append, runs-keep, every-split, every-head}
 use Rattle.seats.specs.Seats.{seatCount}
-use Rattle.offices.specs.Offices.{officeOf}
-use Rattle.number_checks.specs.Numbers.{limit}
+use Rattle.seats.specs.Offices.{officeOf}
+use Rattle.records.specs.Numbers.{limit}
 use Rattle.records.specs.Layout.{syncMark, syncLength, encodeView, encodeSync, decodeSync, decodeView}
 use Rattle.records.specs.declared.Notice.{Notice}
 use Rattle.records.specs.declared.View.{View}
@@ -21,8 +21,8 @@ use Rattle.records.proofs.RoundTrip.{sync-passes}
 use Rattle.rules.specs.Rules.{Written, notice, proposal, view, fresh}
 use Rattle.rules.specs.Refusals.{bytesOf}
 use Rattle.runs.specs.Office.{Input, logOf, sentIn}
-use Rattle.desk_checks.specs.declared.Desk.{Desk}
-use Rattle.desk_checks.specs.SeatChecks.{startFor}
+use Rattle.desk.specs.declared.checks.Desk.{Desk}
+use Rattle.desk.specs.SeatChecks.{startFor}
 use Rattle.desk.specs.declared.Heard.{Heard}
 use Rattle.desk.specs.Hearing.{freshDesk, hearOf}
 use Rattle.desk.specs.Syncing.{syncOf, syncBytes}

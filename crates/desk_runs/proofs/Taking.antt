@@ -6,7 +6,7 @@ use Prim.Native.Nat.{ℕ}
 use Rattle.laws.specs.Lists.{runs, Every, none, more}
 use Rattle.rules.specs.Rules.{Written}
 use Rattle.rules.specs.Refusals.{bytesOf}
-use Rattle.desk_checks.specs.declared.Desk.{Desk}
+use Rattle.desk.specs.declared.checks.Desk.{Desk}
 use Rattle.desk.specs.declared.Heard.{Heard}
 use Rattle.desk.specs.Hearing.{hearOf}
 use Rattle.desk_runs.specs.Sent.{forSeat, sentTo, hearings, deskAfter}

@@ -7,16 +7,16 @@ use Rattle.laws.specs.Tab.{tab}
 use Rattle.laws.specs.Big.{bytesAll}
 use Rattle.laws.specs.Bit.{bit}
 use Rattle.seats.specs.Seats.{has, containsOf}
-use Rattle.offices.specs.Offices.{officeOf, serves}
-use Rattle.number_checks.specs.Numbers.{limit}
+use Rattle.seats.specs.Offices.{officeOf, serves}
+use Rattle.records.specs.Numbers.{limit}
 use Rattle.records.specs.Layout.{encodeReport, encodeProposal, encodeNotice, encodeView, decodeNotice, decodeView, markOf, checkFor, checkEither}
 use Rattle.rules.specs.State.{fast}
 use Rattle.rules.specs.Rules.{fresh}
 use Rattle.rules.specs.Refusals.{fullRoom, eventOf}
 use Rattle.runs.specs.Office.{Input, logOf, sentIn}
-use Rattle.desk_checks.specs.declared.Desk.{Desk}
+use Rattle.desk.specs.declared.checks.Desk.{Desk}
 use Rattle.desk.specs.declared.Heard.{Heard}
-use Rattle.desk_checks.specs.SeatChecks.{tooHigh, lacksSeat, seatChecks}
+use Rattle.desk.specs.SeatChecks.{tooHigh, lacksSeat, seatChecks}
 use Rattle.desk.specs.Hearing.{freshDesk, madeDesk, seatRecordOf, hearChecks, afterRecord, hearOf}
 use Rattle.desk_runs.specs.Sent.{sentTo, hearings}
 

@@ -8,7 +8,7 @@ use Rattle.laws.specs.Upd.{ifb}
 use Rattle.seats.specs.Seats.{containsOf}
 use Rattle.rules.specs.Rules.{Written, notice, proposal, view}
 use Rattle.rules.specs.Refusals.{bytesOf, Event, aReport, aProposal}
-use Rattle.desk_checks.specs.declared.Desk.{Desk}
+use Rattle.desk.specs.declared.checks.Desk.{Desk}
 use Rattle.desk.specs.declared.Heard.{Heard}
 use Rattle.desk.specs.Hearing.{hearOf}
 

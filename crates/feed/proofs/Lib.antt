@@ -1,1 +1,4 @@
 pub mod Whole
+pub mod Holding
+pub mod Answering
+pub mod Turning

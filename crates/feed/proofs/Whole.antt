@@ -9,13 +9,13 @@ use lib.ListN.{take, drop, take-append-drop}
 use Rattle.laws.proofs.Fin.{true-false}
 use Rattle.laws.specs.Upd.{ifb}
 use Rattle.row.specs.Row.{stateOf}
-use Rattle.lines.specs.Lines.{linesOf, textOf}
-use Rattle.answer.specs.Held.{Sound, StateMade}
-use Rattle.input_buffer.specs.Place.{windowOf, unwrittenOf}
-use Rattle.turn.specs.Turn.{Turns}
+use Rattle.text.specs.Lines.{linesOf, textOf}
+use Rattle.feed.specs.Held.{Sound, StateMade}
+use Rattle.buffers.specs.Place.{windowOf, unwrittenOf}
+use Rattle.feed.specs.Turn.{Turns}
 use Rattle.feed.specs.Whole.{Stand, Run, begun, turned, Ran}
-use Rattle.input_buffer.specs.declared.Place.{Place}
-use Rattle.turn.specs.declared.Turned.{Turned}
+use Rattle.buffers.specs.declared.input.Place.{Place}
+use Rattle.feed.specs.declared.turn.Turned.{Turned}
 
 -- what is due at a place, where f is still to come
 abbrev due : Bool → Bool → Stand → List ℕ → List ℕ

@@ -1,1 +1,4 @@
 pub mod Whole
+pub mod Held
+pub mod Answered
+pub mod Turn

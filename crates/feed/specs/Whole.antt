@@ -4,10 +4,10 @@ use mathlib.Core.Bool.{Bool, true, false}
 use mathlib.Core.List.{List, [], _++_}
 use Prim.Native.Nat.{ℕ, _+_, _^_, _<_}
 use lib.ListN.{take, drop}
-use Rattle.answer.specs.Held.{Sound}
-use Rattle.input_buffer.specs.Place.{Within, windowOf, unwrittenOf}
-use Rattle.turn.specs.Turn.{Keeps}
-use Rattle.input_buffer.specs.declared.Place.{Place}
+use Rattle.feed.specs.Held.{Sound}
+use Rattle.buffers.specs.Place.{Within, windowOf, unwrittenOf}
+use Rattle.feed.specs.Turn.{Keeps}
+use Rattle.buffers.specs.declared.input.Place.{Place}
 
 -- where a run stands: the row, whether the input has ended, the records answered, the bytes unanswered and those unwritten
 pub record Stand : Type 0 where

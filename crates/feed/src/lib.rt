@@ -1,16 +1,19 @@
 // The program: the records of standard input through the step, a line on standard output for each.
 use answer::held::make;
-use input_buffer::Place;
-use output_buffer::due;
-use output_buffer::flush;
+use buffers::input::Place;
+use buffers::output::due;
+use buffers::output::flush;
 use turn::turn;
 ghost use mathlib.Core.Path.{_≡_};
 ghost use Prim.Native.Nat.{_-_, _<_, _≤_};
 ghost use lib.ListN.{length};
 ghost use Rattle.laws.specs.Upd.{ifb};
-ghost use Rattle.lines.specs.Lines.{noOffice};
-ghost use Rattle.answer.specs.Held.{Sound};
+ghost use Rattle.text.specs.Lines.{noOffice};
+ghost use Rattle.feed.specs.Held.{Sound};
 ghost use Rattle.feed.specs.Whole.{Ran};
+
+mod answer;
+mod turn;
 
 // Where the turns end: `more` where they ran out.
 struct Ended {

@@ -16,8 +16,8 @@ use Rattle.laws.proofs.Tab.{tab-ext}
 use Rattle.laws.specs.Upd.{ifb, upd}
 use Rattle.laws.proofs.Upd.{upd-same, upd-other, upd-cases}
 use Rattle.seats.specs.Seats.{has}
-use Rattle.offices.specs.Offices.{officeOf, serves}
-use Rattle.offices.proofs.Laws.{seat-serves, serves-seat}
+use Rattle.seats.specs.Offices.{officeOf, serves}
+use Rattle.seats.proofs.OfficeLaws.{seat-serves, serves-seat}
 use Rattle.records.specs.declared.Report.{Report}
 use Rattle.records.specs.declared.Proposal.{Proposal}
 use Rattle.rules.specs.State.{Mode, None, Fast, Slow, Slot, State, keeping, fast, slow, zeros, storedAt, acceptedAt}

@@ -10,7 +10,7 @@ use Rattle.laws.specs.Fin.{allb, anyb, largest}
 use Rattle.laws.specs.Tab.{tab}
 use Rattle.laws.specs.Upd.{ifb, upd}
 use Rattle.seats.specs.Seats.{has, unionOf, withoutOf}
-use Rattle.offices.specs.Offices.{officeOf, serves}
+use Rattle.seats.specs.Offices.{officeOf, serves}
 use Rattle.seats.specs.declared.SeatSet.{SeatSet}
 use Rattle.records.specs.declared.Report.{Report}
 use Rattle.records.specs.declared.Proposal.{Proposal}

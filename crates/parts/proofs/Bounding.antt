@@ -9,7 +9,7 @@ use Rattle.seats.specs.declared.SeatSet.{SeatSet}
 use Rattle.records.specs.declared.Proposal.{Proposal}
 use Rattle.rules.specs.State.{Mode, None, Fast, Slow, State}
 use Rattle.rules.specs.Rules.{opened, opens, nextNumber, proposed, proposesFast, received, slowNumber, beginsIn, nothingWritten, andThen, slowCalled, proposesSlow, slowTest, agreed, startOf}
-use Rattle.number_checks.specs.Numbers.{limit}
+use Rattle.records.specs.Numbers.{limit}
 use Rattle.rules.specs.Refusals.{wellFormed}
 use Rattle.rules.specs.Bounds.{Capped}
 use Rattle.rule_laws.proofs.Steps.{well-facts}

@@ -4,7 +4,7 @@ use mathlib.Core.Bool.{Bool, true, false}
 use Prim.Native.Nat.{ℕ, _+_, max}
 use Rattle.laws.specs.Fin.{largest}
 use Rattle.laws.specs.Upd.{ifb}
-use Rattle.offices.specs.Offices.{serves}
+use Rattle.seats.specs.Offices.{serves}
 use Rattle.seats.specs.declared.SeatSet.{SeatSet}
 use Rattle.records.specs.declared.Proposal.{Proposal}
 use Rattle.rules.specs.State.{Mode, Fast, Slow, State, keeping, storedAt}

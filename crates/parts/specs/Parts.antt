@@ -1,7 +1,7 @@
 -- Names for what single functions do or compute.
 use Prim.Native.Nat.{ℕ}
 use Rattle.laws.specs.Upd.{ifb}
-use Rattle.offices.specs.Offices.{serves}
+use Rattle.seats.specs.Offices.{serves}
 use Rattle.records.specs.declared.Proposal.{Proposal}
 use Rattle.rules.specs.State.{State, storedAt, numberIn}
 use Rattle.rules.specs.Rules.{Outcome, andThen, received, opens, proposesFast, tests}

@@ -1,6 +1,6 @@
 // A proposal arrives, the start number rises.
 use crate::numbers::larger;
-use notices::write_notice;
+use record_bytes::notices::write_notice;
 use records::Notice;
 use records::Proposal;
 ghost use mathlib.Core.Path.{_≡_};
@@ -18,8 +18,8 @@ pub fn receive(s: &mut [u32], p: Proposal)
     ensures { λ _. ⌜ Changed (receiving p) (now (s .entry)) (now (s .exit)) ⌝ }
 {
     let o = p.sender as usize;
-    row_slots::put_stored(s, o, p);
-    row_changes::set_accepted(s, o, p.number);
+    row::slots::put_stored(s, o, p);
+    row::changes::set_accepted(s, o, p.number);
 }
 
 pub fn opens(s: &mut [u32], out: &mut [u8], at: usize) -> usize
@@ -28,7 +28,7 @@ pub fn opens(s: &mut [u32], out: &mut [u8], at: usize) -> usize
 {
     let start = larger(row::view_number(s), row::start(s) + 1);
     let members = row::net(s);
-    row_changes::set_start(s, start);
+    row::changes::set_start(s, start);
     at
         + write_notice(
             out,

@@ -4,3 +4,7 @@ pub mod Lengths
 pub mod OwnChecks
 pub mod RoundTrip
 pub mod Write
+pub mod NumberLaws
+-- The laws of the reading of a run.
+pub mod RunLaws
+pub mod Growing

@@ -1,3 +1,5 @@
 pub mod Fits
 pub mod Layout
 pub mod Write
+pub mod Numbers
+pub mod Run

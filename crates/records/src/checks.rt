@@ -1,8 +1,8 @@
 // Checks 4 and 5, by the mark's value.
 use crate::Form;
 use crate::RecordKind;
+use crate::bytes::get16;
 use crate::layout;
-use byte_numbers::get16;
 ghost use mathlib.Core.Path.{_≡_};
 ghost use Rattle.records.specs.Layout.{markOf, formFor, formOf, checkFor, checkOf};
 

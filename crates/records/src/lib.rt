@@ -2,8 +2,11 @@
 // 2 slow), so that every byte string of the right length and mark is a record.
 use seats::SeatSet;
 
-pub mod checks;
+pub mod bytes;
+mod checks;
 pub mod layout;
+pub mod numbers;
+pub mod run;
 
 pub use checks::check;
 pub use checks::form_of;

@@ -14,7 +14,7 @@ use Rattle.laws.proofs.Bit.{or-above}
 use Rattle.laws.proofs.Tab.{getD-tab}
 use Rattle.rules.specs.State.{storedAt}
 use Rattle.rules.specs.Bounds.{SlotCapped, Capped}
-use Rattle.number_checks.specs.Numbers.{limit, within}
+use Rattle.records.specs.Numbers.{limit, within}
 use Rattle.rules.specs.Refusals.{slotWithin, wellFormed}
 use Rattle.row.specs.Row.{rowLength, ownPlace, modePlace, slotPlace, startPlace, numberPlace, viewPlace, startsPlace, acceptedPlace, usedPlace, numbersPlace, numbersCount}
 use Rattle.row.specs.Row.{sixteenWords, slotOf, stateOf, Row, isRow, soundRow, low, lowRow}

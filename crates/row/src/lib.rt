@@ -1,7 +1,11 @@
-// The state of an office in a row of words that the caller lends; inner to the layer of the step. Contracts speak of the record State;
-// no function outside the crates whose names begin with `row` names a place of the row.
-pub mod places;
+// The state of an office in a row of words that the caller lends. Contracts speak of the record State; no function outside this crate names a place of the row.
+pub mod changes;
+pub mod checks;
+mod form;
+mod places;
 mod readers;
+pub mod slots;
+mod stores;
 
 pub use readers::accepted;
 pub use readers::mode;

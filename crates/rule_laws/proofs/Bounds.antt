@@ -8,13 +8,13 @@ use Rattle.laws.specs.Fin.{largest}
 use Rattle.laws.proofs.Fin.{largest-below, if-cases}
 use Rattle.laws.specs.Upd.{ifb, upd}
 use Rattle.laws.proofs.Upd.{upd-cases}
-use Rattle.offices.specs.Offices.{serves}
+use Rattle.seats.specs.Offices.{serves}
 use Rattle.records.specs.declared.Report.{Report}
 use Rattle.records.specs.declared.Proposal.{Proposal}
 use Rattle.rules.specs.State.{Mode, None, Fast, Slow, Slot, State, keeping, storedAt, usedFor, numberIn}
 use Rattle.rules.specs.Rules.{andThen, withNet, opened, opens, nextNumber, ownProposal, proposed, proposesFast, received}
 use Rattle.rules.specs.Rules.{slowNumber, beginsIn, proposesSlow, agreed, startOf, viewOf, concluded, reportRule, proposalRule}
-use Rattle.number_checks.specs.Numbers.{limit}
+use Rattle.records.specs.Numbers.{limit}
 use Rattle.rules.specs.Refusals.{wellFormed, aReport, aProposal}
 use Rattle.rules.specs.Bounds.{SlotCapped, Capped, low}
 use Rattle.rule_laws.proofs.Parts.{proposed-reads, received-reads}

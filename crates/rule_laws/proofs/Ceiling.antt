@@ -11,12 +11,12 @@ use Rattle.laws.proofs.Fin.{if-cases, if-le, true-false}
 use Rattle.laws.proofs.Tab.{getD-tab}
 use Rattle.laws.specs.Upd.{ifb, upd}
 use Rattle.laws.proofs.Upd.{upd-cases}
-use Rattle.offices.specs.Offices.{serves}
+use Rattle.seats.specs.Offices.{serves}
 use Rattle.records.specs.declared.Proposal.{Proposal}
 use Rattle.rules.specs.State.{Mode, Fast, Slow, Slot, State, keeping, storedAt, acceptedAt, usedAt, numberIn}
 use Rattle.rules.specs.Rules.{Written, Outcome, nothingWritten, andThen, withNet, opened, opens, ownProposal, proposed, nextNumber, slowNumber, proposesFast}
 use Rattle.rules.specs.Rules.{proposesSlow, startOf, viewOf, concluded, agreed}
-use Rattle.number_checks.specs.Numbers.{limit}
+use Rattle.records.specs.Numbers.{limit}
 use Rattle.rules.specs.Refusals.{wellFormed, Event, aReport, aProposal, refusalOf, ruleOf}
 use Rattle.rule_laws.proofs.Steps.{SlotWithin, well-facts, facts-well, check-facts}
 use Rattle.rule_laws.proofs.Parts.{proposed-reads, received-reads, concluded-reads, made-is, made-used}

@@ -10,7 +10,7 @@ use Rattle.laws.specs.Lists.{Every, none, more}
 use Rattle.laws.proofs.Lists.{every-append, every-map}
 use Rattle.laws.proofs.Tab.{getD-tab}
 use Rattle.laws.proofs.Upd.{upd-other}
-use Rattle.offices.specs.Offices.{serves}
+use Rattle.seats.specs.Offices.{serves}
 use Rattle.records.specs.declared.Proposal.{Proposal}
 use Rattle.records.specs.declared.View.{View}
 use Rattle.rules.specs.State.{Mode, Fast, Slow, Slot, State, nothing, keeping, storedAt, usedAt}

@@ -11,7 +11,7 @@ use Rattle.laws.proofs.Tab.{length-tab, getD-tab}
 use Rattle.laws.proofs.Fin.{if-cases}
 use Rattle.laws.specs.Upd.{ifb, upd}
 use Rattle.laws.proofs.Upd.{upd-cases}
-use Rattle.offices.specs.Offices.{serves}
+use Rattle.seats.specs.Offices.{serves}
 use Rattle.records.specs.Layout.{markOf}
 use Rattle.records.specs.declared.Proposal.{Proposal}
 use Rattle.records.proofs.OwnChecks.{used-sixteen}

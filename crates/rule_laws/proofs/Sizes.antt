@@ -12,7 +12,7 @@ use Rattle.laws.proofs.Fin.{if-cases, as-facts, anyb-out, anyb-none, or-cases, 
 use Rattle.laws.proofs.Tab.{length-tab}
 use Rattle.laws.specs.Upd.{ifb, upd}
 use Rattle.laws.proofs.Upd.{upd-same, upd-other}
-use Rattle.offices.specs.Offices.{serves}
+use Rattle.seats.specs.Offices.{serves}
 use Rattle.records.specs.Layout.{noticeLength, proposalLength, viewLength}
 use Rattle.records.proofs.Lengths.{proposal-length, notice-length, view-length}
 use Rattle.records.specs.declared.Report.{Report}

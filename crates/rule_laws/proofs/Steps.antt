@@ -13,9 +13,9 @@ use Rattle.laws.specs.Checks.{firstOf}
 use Rattle.laws.proofs.Checks.{first-none, no-reason}
 use Rattle.laws.proofs.Fin.{as-facts, or-cases, true-false}
 use Rattle.laws.proofs.Tab.{getD-tab}
-use Rattle.offices.specs.Offices.{serves}
-use Rattle.number_checks.specs.Numbers.{limit, within}
-use Rattle.number_checks.proofs.Laws.{stray-out, stray-in}
+use Rattle.seats.specs.Offices.{serves}
+use Rattle.records.specs.Numbers.{limit, within}
+use Rattle.records.proofs.NumberLaws.{stray-out, stray-in}
 use Rattle.records.specs.Layout.{checkOf}
 use Rattle.records.specs.declared.Proposal.{Proposal}
 use Rattle.rules.specs.State.{Slot, State, fast, slow, storedAt, acceptedAt, usedAt, usedFor}

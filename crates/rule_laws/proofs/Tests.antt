@@ -9,7 +9,7 @@ use borrow.Author.Tests.{eqb-true, eq-eqb, ne-eqb, ltb-true, lt-ltb, not-true}
 use Rattle.laws.specs.Fin.{anyb, largest}
 use Rattle.laws.proofs.Fin.{as-facts, and-l, and-r, and-in, or-l, or-r, or-cases, true-false, allb-out, allb-in, anyb-out, anyb-none, largest-max, largest-le, if-cases}
 use Rattle.laws.specs.Upd.{ifb}
-use Rattle.offices.specs.Offices.{serves}
+use Rattle.seats.specs.Offices.{serves}
 use Rattle.rules.specs.State.{Mode, None, Fast, Slow, State, slow, kindOf, storedAt, usedFor}
 use Rattle.rules.specs.Rules.{inSlot, matching, matchingSlow, aboveOwn, usesOwn, calledIn, slowCalled, joinedNumber, nextNumber, slowNumber, agreesKind, agreesIn, isNone, agreed}
 use Rattle.rule_laws.proofs.Modes.{busy-is, is-busy}

@@ -10,14 +10,14 @@ use Rattle.laws.specs.Lists.{Every, none, more}
 use Rattle.laws.proofs.Lists.{every-append}
 use Rattle.laws.proofs.Fin.{if-cases}
 use Rattle.laws.proofs.Tab.{getD-tab}
-use Rattle.offices.specs.Offices.{serves}
+use Rattle.seats.specs.Offices.{serves}
 use Rattle.records.specs.declared.Notice.{Notice}
 use Rattle.records.specs.declared.Proposal.{Proposal}
 use Rattle.records.specs.declared.View.{View}
 use Rattle.rules.specs.State.{Mode, None, Fast, Slow, State, keeping, usedFor}
 use Rattle.rules.specs.Rules.{Written, notice, proposal, view, Outcome, andThen, opened, noticeOf, opens, nextNumber, ownProposal}
 use Rattle.rules.specs.Rules.{proposed, hasRecipient, proposesFast, slowNumber, proposesSlow, agreed, startOf, viewOf, concluded}
-use Rattle.number_checks.specs.Numbers.{limit}
+use Rattle.records.specs.Numbers.{limit}
 use Rattle.rules.specs.Refusals.{Event, eventOf, ruleOf, stepOf}
 use Rattle.rule_laws.proofs.Tests.{agreed-out, next-above, slow-above}
 use Rattle.rule_laws.proofs.Steps.{SlotWithin, Refused, Accepts, well-facts, step-cases, step-accepts}

@@ -9,7 +9,7 @@ use Rattle.laws.specs.Tab.{tab}
 use Rattle.laws.specs.Big.{bytesAll}
 use Rattle.laws.specs.Bit.{bit}
 use Rattle.seats.specs.Seats.{has, unionOf, withoutOf}
-use Rattle.offices.specs.Offices.{serves}
+use Rattle.seats.specs.Offices.{serves}
 use Rattle.records.specs.Layout.{encodeReport, decodeReport, encodeProposal, decodeProposal, encodeNotice, encodeView, markOf, formFor, formOf}
 use Rattle.records.specs.Layout.{checkFor, checkOf}
 use Rattle.rules.specs.State.{None, Fast, State, fast, slow}
@@ -17,7 +17,7 @@ use Rattle.rules.specs.Rules.{Written, notice, proposal, view, andThen, 
 use Rattle.rules.specs.Rules.{ownProposal, proposed, receives, proposesFast, received, matching, matchingSlow, aboveOwn, usesOwn, slowCalled}
 use Rattle.rules.specs.Rules.{joinedNumber, slowNumber, proposesSlow, slowTest, agreesKind, isNone, agreed, startOf, viewOf, concluded}
 use Rattle.rules.specs.Rules.{agreementTest, tests, changeRule, reportRule, proposalRule}
-use Rattle.number_checks.specs.Numbers.{limit}
+use Rattle.records.specs.Numbers.{limit}
 use Rattle.rules.specs.Refusals.{Result, slotWithin, wellFormed, unreadable, eventOf, wrongSender, wrongKind, wrongNumber, withoutSeat}
 use Rattle.rules.specs.Refusals.{strayUsed, notAbove, usedAhead, proposalChecks, accepting, actOf, takeOf, stepOf, allBytes}
 

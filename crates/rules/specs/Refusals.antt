@@ -7,8 +7,8 @@ use lib.Dec.{eqb, ltb, leb}
 use Rattle.laws.specs.Checks.{Check, numbered, firstOf}
 use Rattle.laws.specs.Fin.{allb}
 use Rattle.laws.specs.Upd.{ifb}
-use Rattle.offices.specs.Offices.{serves}
-use Rattle.number_checks.specs.Numbers.{limit, within, aboveLimit, strayNumber}
+use Rattle.seats.specs.Offices.{serves}
+use Rattle.records.specs.Numbers.{limit, within, aboveLimit, strayNumber}
 use Rattle.records.specs.Layout.{reportMark, valueOf, checkOf, markOf, decodeReport, decodeProposal, encodeProposal, encodeNotice, encodeView}
 use Rattle.records.specs.declared.Report.{Report}
 use Rattle.records.specs.declared.Proposal.{Proposal}

@@ -7,7 +7,7 @@ use Rattle.laws.specs.Fin.{allb, anyb, largest}
 use Rattle.laws.specs.Tab.{tab}
 use Rattle.laws.specs.Upd.{ifb}
 use Rattle.seats.specs.Seats.{unionOf, withoutOf}
-use Rattle.offices.specs.Offices.{serves}
+use Rattle.seats.specs.Offices.{serves}
 use Rattle.records.specs.declared.Report.{Report}
 use Rattle.records.specs.declared.Proposal.{Proposal}
 use Rattle.records.specs.declared.Notice.{Notice}

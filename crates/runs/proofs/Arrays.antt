@@ -10,7 +10,7 @@ use Rattle.laws.specs.Lists.{Every}
 use Rattle.laws.specs.Upd.{upd, ifb, upd2}
 use Rattle.laws.specs.Fin.{largest}
 use Rattle.laws.specs.Tab.{tab}
-use Rattle.offices.specs.Offices.{serves}
+use Rattle.seats.specs.Offices.{serves}
 use Rattle.records.specs.declared.Report.{Report}
 use Rattle.records.specs.declared.Proposal.{Proposal}
 use Rattle.records.specs.declared.View.{View}

@@ -10,12 +10,12 @@ use Rattle.laws.specs.Lists.{Every, none}
 use Rattle.laws.proofs.Lists.{every-head, every-tail}
 use Rattle.laws.proofs.Fin.{true-false}
 use Rattle.laws.proofs.Upd.{upd-other}
-use Rattle.offices.specs.Offices.{serves}
+use Rattle.seats.specs.Offices.{serves}
 use Rattle.records.proofs.RoundTrip.{proposal-back}
 use Rattle.records.specs.declared.Proposal.{Proposal}
 use Rattle.rules.specs.State.{State, usedAt}
 use Rattle.rules.specs.Rules.{nothingWritten, received, receives, proposalRule}
-use Rattle.number_checks.specs.Numbers.{limit}
+use Rattle.records.specs.Numbers.{limit}
 use Rattle.rules.specs.Refusals.{wellFormed, Event, aProposal, refusalOf, ruleOf, Result, takeOf}
 use Rattle.rule_laws.proofs.Steps.{accepted, Refused, Takes, Passes, well-facts, check-facts, facts-check, take-accepts, take-cases}
 use Rattle.rule_laws.proofs.Parts.{received-reads}

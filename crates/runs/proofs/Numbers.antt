@@ -11,7 +11,7 @@ use Rattle.laws.proofs.Lists.{every-append, every-head, every-map, every-tail}
 use Rattle.laws.specs.Upd.{ifb, upd2}
 use Rattle.laws.proofs.Upd.{upd-same, upd-other}
 use Rattle.laws.proofs.Fin.{if-cases, true-false}
-use Rattle.offices.specs.Offices.{serves}
+use Rattle.seats.specs.Offices.{serves}
 use Rattle.records.specs.declared.Proposal.{Proposal}
 use Rattle.rules.specs.State.{Mode, Fast, Slow, Slot, nothing, keeping, usedFor, numberIn}
 use Rattle.runs.specs.World.{Item, World, WorldEvent, without}

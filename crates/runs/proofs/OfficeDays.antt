@@ -10,7 +10,7 @@ use Rattle.laws.specs.Tab.{tab}
 use Rattle.laws.specs.Big.{bytesAll}
 use Rattle.laws.specs.Bit.{bit}
 use Rattle.seats.specs.Seats.{has, unionOf, withoutOf}
-use Rattle.offices.specs.Offices.{serves}
+use Rattle.seats.specs.Offices.{serves}
 use Rattle.records.specs.Layout.{encodeReport, decodeReport, encodeProposal, decodeProposal, markOf, formFor, formOf, checkFor, checkOf}
 use Rattle.records.specs.declared.Proposal.{Proposal}
 use Rattle.records.specs.declared.View.{View}

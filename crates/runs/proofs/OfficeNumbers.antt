@@ -11,7 +11,7 @@ use borrow.Author.Tests.{eq-eqb, ne-eqb}
 use Rattle.laws.proofs.Fin.{if-cases}
 use Rattle.laws.specs.Upd.{ifb, upd}
 use Rattle.laws.proofs.Upd.{upd-same, upd-other, upd-cases}
-use Rattle.offices.specs.Offices.{serves}
+use Rattle.seats.specs.Offices.{serves}
 use Rattle.records.specs.declared.Proposal.{Proposal}
 use Rattle.records.specs.declared.View.{View}
 use Rattle.rules.specs.State.{Mode, Slot, State, keeping, nothing, storedAt, acceptedAt}

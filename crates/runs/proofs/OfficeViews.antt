@@ -11,7 +11,7 @@ use Rattle.laws.specs.Lists.{Every, none, more}
 use Rattle.laws.proofs.Lists.{every-append, every-at}
 use Rattle.laws.proofs.Tab.{getD-tab}
 use Rattle.laws.proofs.Fin.{if-cases, true-false}
-use Rattle.offices.specs.Offices.{serves}
+use Rattle.seats.specs.Offices.{serves}
 use Rattle.records.specs.declared.Report.{Report}
 use Rattle.records.specs.declared.Proposal.{Proposal}
 use Rattle.records.specs.declared.View.{View}

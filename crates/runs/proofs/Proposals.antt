@@ -11,7 +11,7 @@ use Rattle.laws.proofs.Lists.{every-append, every-map}
 use Rattle.laws.proofs.Fin.{if-cases, true-false}
 use Rattle.laws.proofs.Tab.{length-tab}
 use Rattle.laws.specs.Upd.{ifb}
-use Rattle.offices.specs.Offices.{serves}
+use Rattle.seats.specs.Offices.{serves}
 use Rattle.records.specs.Fits.{FitsReport}
 use Rattle.records.specs.declared.Report.{Report}
 use Rattle.records.specs.declared.Proposal.{Proposal}

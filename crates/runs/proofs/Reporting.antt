@@ -8,13 +8,13 @@ use native.Mathlib.Omega.{arith}
 use Rattle.laws.specs.Lists.{none}
 use Rattle.laws.proofs.Fin.{true-false}
 use Rattle.laws.proofs.Upd.{upd-other}
-use Rattle.offices.specs.Offices.{serves}
+use Rattle.seats.specs.Offices.{serves}
 use Rattle.seats.proofs.Laws.{union-lt, without-lt}
 use Rattle.records.specs.Fits.{FitsReport}
 use Rattle.records.specs.declared.Report.{Report}
 use Rattle.rules.specs.State.{State, usedAt}
 use Rattle.rules.specs.Rules.{nothingWritten, netAfter, withNet, repeats, seated, receives, reportRule}
-use Rattle.number_checks.specs.Numbers.{limit}
+use Rattle.records.specs.Numbers.{limit}
 use Rattle.rules.specs.Refusals.{wellFormed, Event, aReport, ruleOf, Result, takeOf}
 use Rattle.rule_laws.proofs.Steps.{accepted, Refused, Takes, well-facts, take-accepts}
 use Rattle.rule_laws.proofs.Repeats.{repeat-net, change-net, repeat-rule}

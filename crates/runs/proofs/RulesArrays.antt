@@ -9,7 +9,7 @@ use Rattle.laws.proofs.Fin.{if-cases, anyb-none, true-false, largest-ext}
 use Rattle.laws.proofs.Tab.{tab-ext}
 use Rattle.laws.specs.Upd.{ifb}
 use Rattle.laws.proofs.Upd.{upd-same, upd-other}
-use Rattle.offices.specs.Offices.{serves}
+use Rattle.seats.specs.Offices.{serves}
 use Rattle.records.specs.declared.Proposal.{Proposal}
 use Rattle.rules.specs.State.{Mode, None, Fast, Slow, Slot, State, fast, slow, kindOf, usedFor}
 use Rattle.rules.specs.Rules.{Written, notice, proposal, view, Outcome, nothingWritten, andThen, receives, hasRecipient, ownProposal, proposed, opens, inSlot, startOf, viewOf, concluded, slowCalled, slowNumber, nextNumber, beginsIn, proposesSlow, proposesFast}

@@ -4,7 +4,7 @@ use mathlib.Core.List.{List}
 use Prim.Native.Nat.{ℕ, _<_}
 use Rattle.laws.specs.Upd.{ifb, upd, upd2}
 use Rattle.laws.proofs.Upd.{upd-same, upd-agree}
-use Rattle.offices.specs.Offices.{serves}
+use Rattle.seats.specs.Offices.{serves}
 use Rattle.records.specs.declared.Proposal.{Proposal}
 use Rattle.rules.specs.State.{Mode, None, State, nothing, keeping, storedAt, acceptedAt, usedAt, numberIn}
 use Rattle.rules.specs.Rules.{withNet, opened, ownProposal, proposed, received, concluded}

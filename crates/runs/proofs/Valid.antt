@@ -8,12 +8,12 @@ use lib.ListN.{length, getD, List·getD-eq-default}
 use lib.Dec.{ltb}
 use borrow.Author.Tests.{ltb-true, ltb-false}
 use Rattle.laws.proofs.Fin.{and-l, if-le}
-use Rattle.offices.specs.Offices.{serves}
+use Rattle.seats.specs.Offices.{serves}
 use Rattle.records.specs.Fits.{FitsProposal}
 use Rattle.records.specs.declared.Proposal.{Proposal}
 use Rattle.rules.specs.State.{State, fast, slow, usedAt, usedFor}
 use Rattle.rules.specs.Rules.{receives}
-use Rattle.number_checks.specs.Numbers.{limit}
+use Rattle.records.specs.Numbers.{limit}
 use Rattle.rule_laws.proofs.Steps.{WellFormed}
 use Rattle.runs.proofs.Proposals.{Begun, MadeBetween}
 

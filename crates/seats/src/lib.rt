@@ -1,7 +1,9 @@
-// Sets of seats. There are 64 seats, 0 to 63.
+// Sets of seats, and what they say of offices (offices). There are 64 seats, 0 to 63.
 ghost use mathlib.Core.Path.{_≡_};
 ghost use lib.Dec.{eqb};
 ghost use Rattle.seats.specs.Seats.{containsOf, insertOf, removeOf, lowestSeat, unionOf, withoutOf};
+
+pub mod offices;
 
 pub const SEATS: u8 = 64;
 

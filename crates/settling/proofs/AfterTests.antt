@@ -12,7 +12,7 @@ use borrow.Author.Tests.{ne-eqb}
 use Rattle.laws.specs.Upd.{ifb, upd, upd2}
 use Rattle.laws.proofs.Upd.{upd-same, upd-other}
 use Rattle.laws.proofs.Fin.{if-cases}
-use Rattle.offices.specs.Offices.{serves}
+use Rattle.seats.specs.Offices.{serves}
 use Rattle.records.specs.declared.Proposal.{Proposal}
 use Rattle.rules.specs.State.{Mode, None, Fast, Slow, Slot, slow, kindOf, nothing, keeping, usedFor}
 use Rattle.runs.specs.World.{Item, without}

@@ -15,7 +15,7 @@ use Rattle.laws.proofs.Lists.{every-append, every-head, every-map, every-tail}
 use Rattle.laws.specs.Upd.{upd, ifb, upd2}
 use Rattle.laws.proofs.Upd.{upd-same, upd-other, upd-cases, upd-both}
 use Rattle.laws.proofs.Fin.{and-l, and-r, if-cases, if-le}
-use Rattle.offices.specs.Offices.{serves, countOf}
+use Rattle.seats.specs.Offices.{serves, countOf}
 use Rattle.records.specs.declared.Proposal.{Proposal}
 use Rattle.rules.specs.State.{Slow, fast, slow}
 use Rattle.runs.specs.World.{Item, without}

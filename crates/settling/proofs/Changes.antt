@@ -10,7 +10,7 @@ use lib.Seq.{take-all}
 use Rattle.laws.proofs.Fin.{last-change}
 use Rattle.seats.specs.Seats.{has}
 use Rattle.seats.proofs.Laws.{has-empty}
-use Rattle.offices.proofs.Laws.{serves-seat}
+use Rattle.seats.proofs.OfficeLaws.{serves-seat}
 use Rattle.rules.specs.State.{State}
 use Rattle.runs.specs.World.{Item, WorldEvent, at, Nth, netBy}
 use Rattle.runs.proofs.NetView.{changing-report, net-next}

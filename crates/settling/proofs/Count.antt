@@ -12,8 +12,8 @@ use Rattle.laws.specs.Upd.{upd, ifb, upd2}
 use Rattle.laws.proofs.Upd.{upd-same, upd-other}
 use Rattle.laws.specs.Fin.{sum}
 use Rattle.laws.proofs.Fin.{sum-ext, sum-one, sum-add, sum-times, sum-mono, if-le}
-use Rattle.offices.specs.Offices.{serves, countOf}
-use Rattle.offices.proofs.Counts.{count-sum, others-count}
+use Rattle.seats.specs.Offices.{serves, countOf}
+use Rattle.seats.proofs.Counts.{count-sum, others-count}
 use Rattle.runs.specs.World.{Item, without}
 use Rattle.settling.specs.Statement.{between, onWay}
 

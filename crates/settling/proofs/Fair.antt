@@ -12,7 +12,7 @@ use borrow.Author.Tests.{lt-ltb, ne-eqb}
 use Rattle.laws.proofs.Fin.{true-false}
 use Rattle.laws.specs.Upd.{ifb}
 use Rattle.laws.proofs.Upd.{upd-same}
-use Rattle.offices.specs.Offices.{serves}
+use Rattle.seats.specs.Offices.{serves}
 use Rattle.records.specs.declared.Report.{Report}
 use Rattle.records.specs.declared.Proposal.{Proposal}
 use Rattle.rules.specs.State.{Mode, Fast}

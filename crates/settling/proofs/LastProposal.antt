@@ -9,7 +9,7 @@ use lib.Dec.{eqb}
 use borrow.Author.Tests.{ne-eqb}
 use Rattle.laws.proofs.Upd.{upd-cases}
 use Rattle.laws.proofs.Fin.{true-false}
-use Rattle.offices.specs.Offices.{serves}
+use Rattle.seats.specs.Offices.{serves}
 use Rattle.records.specs.declared.Proposal.{Proposal}
 use Rattle.rules.specs.State.{Mode, fast, slow, nothing, keeping, usedFor, numberIn}
 use Rattle.runs.specs.World.{Item, without}

@@ -7,7 +7,7 @@ use mathlib.Core.List.{List, [], _∷_}
 use Prim.Native.Nat.{ℕ, _≤_, _<_}
 use native.Mathlib.Omega.{arith}
 use native.Mathlib.Decide.{ℕ-discrete}
-use Rattle.offices.specs.Offices.{serves}
+use Rattle.seats.specs.Offices.{serves}
 use Rattle.rules.specs.State.{Mode, None, Fast, Slow, fast, slow, kindOf, keeping, usedFor}
 use Rattle.runs.specs.World.{SentView}
 use Rattle.runs.proofs.Links.{snoc-not-nil}

@@ -11,7 +11,7 @@ use Rattle.laws.proofs.Lists.{every-append, every-map, every-tail}
 use Rattle.laws.specs.Upd.{ifb}
 use Rattle.laws.proofs.Upd.{upd-same, upd-other}
 use Rattle.laws.proofs.Fin.{and-l, if-cases}
-use Rattle.offices.specs.Offices.{serves}
+use Rattle.seats.specs.Offices.{serves}
 use Rattle.records.specs.declared.Proposal.{Proposal}
 use Rattle.rules.specs.State.{Mode, None, Fast, Slow, slow, kindOf, keeping, usedFor, numberIn}
 use Rattle.runs.specs.World.{Item, without}

@@ -13,7 +13,7 @@ use Rattle.laws.proofs.Fin.{allb-out, and-iff}
 use Rattle.laws.specs.Tab.{tab}
 use Rattle.laws.proofs.Tab.{getD-tab}
 use Rattle.laws.specs.Upd.{ifb}
-use Rattle.offices.specs.Offices.{serves}
+use Rattle.seats.specs.Offices.{serves}
 use Rattle.rules.specs.Rules.{fresh}
 use Rattle.rules.specs.Refusals.{Result, wellFormed}
 use Rattle.runs.specs.World.{netOne, netBy, Item, World, WorldEvent, report, delivery, loss, next, at, Nth, Gives, to-report, to-proposal, Among}

@@ -8,7 +8,7 @@ use lib.ListN.{length, drop}
 use lib.Seq.{drop-length}
 use Rattle.laws.specs.Lists.{Every}
 use Rattle.laws.proofs.Lists.{every-head}
-use Rattle.offices.specs.Offices.{serves, countOf}
+use Rattle.seats.specs.Offices.{serves, countOf}
 use Rattle.records.specs.declared.Report.{Report}
 use Rattle.records.specs.declared.Proposal.{Proposal}
 use Rattle.records.specs.declared.View.{View}

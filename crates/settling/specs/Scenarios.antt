@@ -13,7 +13,7 @@ use Rattle.laws.specs.Tab.{tab}
 use Rattle.laws.specs.Lists.{runs}
 use Rattle.laws.specs.Upd.{ifb, upd}
 use Rattle.seats.specs.Seats.{has, unionOf, withoutOf}
-use Rattle.offices.specs.Offices.{serves, countOf}
+use Rattle.seats.specs.Offices.{serves, countOf}
 use Rattle.records.specs.Layout.{encodeReport, decodeReport, encodeProposal, decodeProposal, markOf, formFor, formOf, checkFor, checkOf}
 use Rattle.records.specs.declared.Proposal.{Proposal}
 use Rattle.rules.specs.State.{None, State, zeros, nothing}

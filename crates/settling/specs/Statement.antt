@@ -9,7 +9,7 @@ use lib.Dec.{eqb, ltb}
 use Rattle.laws.specs.Lists.{Every}
 use Rattle.laws.specs.Fin.{sum}
 use Rattle.laws.specs.Upd.{ifb}
-use Rattle.offices.specs.Offices.{serves, countOf}
+use Rattle.seats.specs.Offices.{serves, countOf}
 use Rattle.records.specs.declared.Report.{Report}
 use Rattle.records.specs.declared.View.{View}
 use Rattle.rules.specs.State.{State}

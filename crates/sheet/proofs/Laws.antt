@@ -14,8 +14,8 @@ use Rattle.laws.proofs.Fin.{and-l, and-r}
 use Rattle.laws.proofs.Lowest.{lowest-le, lowest-passes, lowest-first, lowest-end, lowest-same}
 use Rattle.seats.specs.Seats.{seatCount, has, containsOf}
 use Rattle.seats.proofs.Laws.{has-below}
-use Rattle.offices.specs.Offices.{packed}
-use Rattle.offices.proofs.Laws.{packed-lt, has-packed, packed-same}
+use Rattle.seats.specs.Offices.{packed}
+use Rattle.seats.proofs.OfficeLaws.{packed-lt, has-packed, packed-same}
 use Rattle.records.specs.declared.View.{View}
 use Rattle.records.specs.declared.Sync.{Sync}
 use Rattle.sheet.specs.declared.Along.the-variants as answers

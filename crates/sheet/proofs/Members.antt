@@ -8,7 +8,7 @@ use borrow.Author.Tests.{eq-eqb}
 use Rattle.seats.specs.Seats.{containsOf}
 use Rattle.records.specs.declared.View.{View}
 use Rattle.records.specs.declared.Sync.{Sync}
-use Rattle.desk_checks.specs.SeatChecks.{startFor}
+use Rattle.desk.specs.SeatChecks.{startFor}
 use Rattle.sheet.specs.Sheet.{counts, recordFor, missing, names, lacksRecord, namesSame}
 use Rattle.sheet.proofs.First.{missing-next, names-next}
 

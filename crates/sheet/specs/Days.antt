@@ -8,8 +8,8 @@ use Rattle.laws.specs.Fin.{anyb}
 use Rattle.laws.specs.Lowest.{lowestBelow}
 use Rattle.laws.specs.Tab.{tab}
 use Rattle.seats.specs.Seats.{has, containsOf}
-use Rattle.offices.specs.Offices.{officeOf, serves, packed}
-use Rattle.number_checks.specs.Numbers.{limit}
+use Rattle.seats.specs.Offices.{officeOf, serves, packed}
+use Rattle.records.specs.Numbers.{limit}
 use Rattle.records.specs.Layout.{encodeNotice, encodeView, encodeSync, decodeView, decodeSync, markOf, checkFor, checkOwn}
 use Rattle.sheet.specs.declared.Along.{Along}
 use Rattle.sheet.specs.declared.Along.the-variants as answers

@@ -10,12 +10,12 @@ use Rattle.laws.specs.Lowest.{lowestBelow}
 use Rattle.laws.specs.Upd.{ifb}
 use Rattle.seats.specs.Seats.{seatCount, containsOf}
 use Rattle.seats.specs.declared.SeatSet.{SeatSet}
-use Rattle.offices.specs.Offices.{packed}
-use Rattle.number_checks.specs.Numbers.{limit}
+use Rattle.seats.specs.Offices.{packed}
+use Rattle.records.specs.Numbers.{limit}
 use Rattle.records.specs.Layout.{viewMark, viewLength, syncMark, syncLength, valueOf, markOf, checkOwn, decodeView, decodeSync}
 use Rattle.records.specs.declared.View.{View}
 use Rattle.records.specs.declared.Sync.{Sync}
-use Rattle.desk_checks.specs.SeatChecks.{aView, recordAbove, strayStart, startFor}
+use Rattle.desk.specs.SeatChecks.{aView, recordAbove, strayStart, startFor}
 use Rattle.sheet.specs.declared.Along.{Along}
 use Rattle.sheet.specs.declared.Along.the-variants as answers
 

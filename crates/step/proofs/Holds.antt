@@ -22,8 +22,8 @@ use Rattle.rule_laws.proofs.Exits.{no-bytes, room-enough}
 use Rattle.rule_laws.proofs.Shapes.{event-shaped, read-sixteen}
 use Rattle.row.specs.Row.{Row, stateOf, wordsOf, isRow, word}
 use Rattle.row.proofs.Low.{is-row}
-use Rattle.record_step.specs.Step.{RowResult, stepRow, Stepped}
-use Rattle.record_step.proofs.Exits.{on-row}
+use Rattle.step.specs.Step.{RowResult, stepRow, Stepped}
+use Rattle.step.proofs.Exits.{on-row}
 use Rattle.row.proofs.Words.{state-shaped, words-state}
 use Rattle.row.proofs.Holds.{Holds, shaped-holds}
 

@@ -9,10 +9,10 @@ use Rattle.rules.specs.Refusals.{fullRoom, wellFormed}
 use Rattle.rule_laws.proofs.Exits.{exit-2, exit-3}
 use Rattle.row.specs.Row.{stateOf, isRow}
 use Rattle.row.proofs.Low.{not-sound, sound-words}
-use Rattle.checks.specs.Checks.{unready}
-use Rattle.checks.proofs.Readiness.{unready-2, unready-3, unready-0}
-use Rattle.record_step.specs.Step.{stepRow}
-use Rattle.record_step.proofs.Exits.{kept, row-refused}
+use Rattle.step.specs.Checks.{unready}
+use Rattle.step.proofs.Readiness.{unready-2, unready-3, unready-0}
+use Rattle.step.specs.Step.{stepRow}
+use Rattle.step.proofs.Exits.{kept, row-refused}
 
 module _ (ws b : List ℕ) (room : ℕ) where
   pub exit-unready : (n : ℕ) → n ≡ unready ws room → (n ≡ 0 → ⊥) → stepRow ws b room ≡ kept n ws

@@ -1,18 +1,26 @@
 // The step: what comes of any bytes on any row of words, in place.
-use record_step::on_record;
-use step_answer::refuse;
+use answers::refuse;
+use on_record::on_record;
 ghost use lib.ListN.{length};
-ghost use Rattle.record_step.specs.Step.{Stepped, stepRow};
-pub use fresh::fresh;
+ghost use Rattle.step.specs.Step.{Stepped, stepRow};
+
+pub mod answers;
+mod checks;
+mod form;
+mod making;
+pub mod on_record;
+mod trial;
+
+pub use answers::Answer;
+pub use making::fresh;
 pub use row::WORDS;
-pub use step_answer::Answer;
 
 // A refusal leaves every word and byte as it was; acceptance leaves the words of the state that the rules leave.
 pub fn step(state: &mut [u32], record: &[u8], out: &mut [u8]) -> Answer
     ensures { λ r. ⌜ Stepped (stepRow (now (state .entry)) (now («record» .entry)) (length (now (out .entry)))) (now (out .entry))
         (r .refusal) (r .written) (now (state .exit)) (now (out .exit)) ⌝ }
 {
-    let low = row_checks::is_low(state);
+    let low = row::checks::is_low(state);
     let unready = checks::ready(state, low, out.len());
     if unready != 0 {
         return refuse(unready);

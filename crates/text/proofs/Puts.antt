@@ -6,9 +6,9 @@ use native.Mathlib.Omega.{arith}
 use native.Mathlib.Numerals.{add-one}
 use native.Mathlib.Nat.{not-suc-le-zero}
 use lib.ListN.{length, set}
-use Rattle.digits.specs.Digits.{hexOf}
-use Rattle.digits.specs.Put.{Put}
-use Rattle.digits.proofs.Puts.{put-then, put-byte}
+use Rattle.text.specs.Digits.{hexOf}
+use Rattle.text.specs.Put.{Put}
+use Rattle.text.proofs.DigitPuts.{put-then, put-byte}
 use Rattle.text.specs.Text.{traceOf, numbersOf, lineOf}
 
 pub number-next : {o o′ : List ℕ} {at next : ℕ} {a : List ℕ} → Put 20 (set o at 32) (at + 1) a next o′ → Put 21 o at (32 ∷ a) next o′

@@ -1,1 +1,4 @@
 pub mod Text
+pub mod Digits
+pub mod Put
+pub mod Lines

@@ -1,7 +1,7 @@
 -- Lines as text, in ASCII.
 use mathlib.Core.List.{List, [], _∷_, _++_}
 use Prim.Native.Nat.{ℕ}
-use Rattle.digits.specs.Digits.{decimal, hexOf}
+use Rattle.text.specs.Digits.{decimal, hexOf}
 
 -- a space and the bytes; nothing where there are none
 unfoldable pub traceOf : List ℕ → List ℕ

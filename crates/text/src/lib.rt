@@ -4,9 +4,12 @@ use digits::put_number;
 ghost use mathlib.Core.List.{_∷_};
 ghost use Prim.Native.Nat.{_+_, _*_, _≤_};
 ghost use lib.ListN.{length};
-ghost use Rattle.digits.specs.Digits.{decimal};
-ghost use Rattle.digits.specs.Put.{Put};
+ghost use Rattle.text.specs.Digits.{decimal};
+ghost use Rattle.text.specs.Put.{Put};
 ghost use Rattle.text.specs.Text.{traceOf, numbersOf, lineOf};
+
+mod digits;
+pub mod lines;
 
 // A space and a number.
 fn put_next(out: &mut [u8], at: usize, n: u64) -> usize

@@ -9,7 +9,7 @@ use borrow.Author.Tests.{eq-eqb, ne-eqb, lt-ltb, ltb-true, ltb-false, not-true, 
 use Rattle.laws.specs.Lowest.{lowestBelow}
 use Rattle.laws.proofs.Fin.{if-cases, and-l, and-r, or-l, or-r, true-false, allb-ext}
 use Rattle.laws.proofs.Lowest.{lowest-le, lowest-passes, lowest-first, lowest-is, none-lowest, lowest-of-all}
-use Rattle.offices.specs.Offices.{serves}
+use Rattle.seats.specs.Offices.{serves}
 use Rattle.rules.specs.State.{None, State}
 use Rattle.rules.specs.Rules.{seated, agreesIn, isNone, agreed}
 use Rattle.rules.specs.Refusals.{wellFormed}

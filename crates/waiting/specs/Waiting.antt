@@ -4,7 +4,7 @@ use Prim.Native.Nat.{ℕ}
 use lib.Dec.{ltb}
 use Rattle.laws.specs.Lowest.{lowestBelow, lowestOfAll}
 use Rattle.laws.specs.Upd.{ifb}
-use Rattle.offices.specs.Offices.{serves}
+use Rattle.seats.specs.Offices.{serves}
 use Rattle.rules.specs.State.{State}
 use Rattle.rules.specs.Rules.{seated, agreesIn, isNone}
 use Rattle.rules.specs.Refusals.{wellFormed}

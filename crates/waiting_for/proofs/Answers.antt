@@ -7,7 +7,7 @@ use lib.Dec.{eqb}
 use borrow.Author.Tests.{lt-ltb, le-ltb}
 use Rattle.laws.specs.Upd.{ifb}
 use Rattle.seats.specs.declared.SeatSet.{SeatSet}
-use Rattle.offices.specs.Offices.{serves}
+use Rattle.seats.specs.Offices.{serves}
 use Rattle.rules.specs.State.{State, kindOf}
 use Rattle.rules.specs.Rules.{seated}
 use Rattle.row.specs.Row.{stateOf, isRow, soundRow}

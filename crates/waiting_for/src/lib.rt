@@ -1,6 +1,6 @@
 // Whom an office waits for, asked of any words; they are only read.
-use lacking::lowest_lacking;
-use offices::serves;
+use agree::lacking::lowest_lacking;
+use seats::offices::serves;
 ghost use mathlib.Core.Path.{_≡_};
 ghost use Rattle.waiting_for.specs.Row.{waitingRow};
 pub use waiting::Waiting;
@@ -8,7 +8,7 @@ pub use waiting::Waiting;
 pub fn waiting_for(state: &[u32]) -> Waiting
     ensures { λ r. ⌜ r ≡ waitingRow (now (state .entry)) ⌝ }
 {
-    if !row_checks::is_sound(state) {
+    if !row::checks::is_sound(state) {
         return Waiting::Malformed;
     }
     let idle = row::mode(state) == 0;

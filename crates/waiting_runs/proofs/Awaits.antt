@@ -5,7 +5,7 @@ use mathlib.Core.Bool.{Bool, true, false}
 use Prim.Native.Nat.{ℕ, _<_}
 use Rattle.laws.proofs.Fin.{true-false}
 use Rattle.laws.proofs.Upd.{upd-same, upd-other}
-use Rattle.offices.specs.Offices.{serves}
+use Rattle.seats.specs.Offices.{serves}
 use Rattle.records.specs.declared.Report.{Report}
 use Rattle.records.specs.declared.Proposal.{Proposal}
 use Rattle.rules.specs.State.{Mode, None, Fast, Slow, Slot, State, kindOf, keeping, storedAt}

@@ -1,7 +1,7 @@
 use mathlib.Core.Path.{refl}
-use Rattle.digits.specs.Digits.{decimalIn, decimal}
+use Rattle.text.specs.Digits.{decimalIn, decimal}
 use Rattle.text.specs.Text.{traceOf, lineOf}
-use Rattle.lines.specs.Lines.{noOffice}
+use Rattle.text.specs.Lines.{noOffice}
 use Rattle.feed.proofs.no_office.Statement.{statement}
 use Rattle.feed.proofs.no_office.Tie as tie
 

@@ -1,5 +1,5 @@
 use borrow.Author.Needs.{needs}
-use Rattle.digits.proofs.Puts.{put-then}
+use Rattle.text.proofs.DigitPuts.{put-then}
 use Rattle.text.proofs.put_numbers.Statement.{statement}
 use Rattle.text.proofs.put_numbers.Tie as tie
 

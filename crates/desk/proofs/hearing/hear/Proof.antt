@@ -1,6 +1,6 @@
 use mathlib.Core.Path.{sym, ap, _∙_}
-use Rattle.notices.specs.declared.NoticeRead.{NoticeRead}
-use Rattle.desk_checks.specs.SeatChecks.{aNotice}
+use Rattle.record_bytes.specs.declared.notices.NoticeRead.{NoticeRead}
+use Rattle.desk.specs.SeatChecks.{aNotice}
 use Rattle.desk.specs.Hearing.{afterRecord}
 use Rattle.desk.proofs.Laws.{SeatRead, hear-6, hear-unread, hear-refused, hear-accepted}
 use Rattle.desk.proofs.Readers.{notice-read}

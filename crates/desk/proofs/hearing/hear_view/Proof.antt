@@ -1,5 +1,5 @@
 use mathlib.Core.Path.{sym, _∙_}
-use Rattle.desk_checks.specs.SeatChecks.{aView}
+use Rattle.desk.specs.SeatChecks.{aView}
 use Rattle.desk.specs.Hearing.{afterRecord}
 use Rattle.desk.proofs.Laws.{SeatRead, hear-unread, hear-refused, hear-accepted}
 use Rattle.desk.proofs.Readers.{view-read}

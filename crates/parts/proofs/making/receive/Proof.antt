@@ -1,6 +1,6 @@
 use borrow.Author.Needs.{needs}
 use mathlib.Core.Path.{refl}
-use Rattle.row_stores.proofs.Stores.{then}
+use Rattle.row.proofs.StoreLaws.{then}
 use Rattle.parts.proofs.Dids.{changed-as}
 use Rattle.rules.specs.Rules.{received}
 use Rattle.parts.proofs.making.receive.Statement.{statement}

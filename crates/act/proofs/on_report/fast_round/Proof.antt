@@ -1,0 +1,71 @@
+use native.Mathlib.Omega.{arith}
+use borrow.Author.Needs.{needs}
+use mathlib.Core.Path.{_≡_, _∙_}
+use mathlib.Core.Bool.{true}
+use Prim.Native.Nat.{_+_}
+use Rattle.rules.specs.State.{State}
+use Rattle.rules.specs.Rules.{Outcome, andThen, seated, opens, proposesFast, tests}
+use Rattle.records.specs.Numbers.{limit}
+use Rattle.rule_laws.proofs.Recipients.{opens-seated}
+use Rattle.row.specs.Row.{stateOf}
+use Rattle.parts.specs.Bounds.{early, reach, Bounded}
+use Rattle.parts.specs.Did.{Fits}
+use Rattle.parts.proofs.Bounding.{bounded-le, opens-bounded, fast-bounded}
+use Rattle.parts.proofs.Dids.{did-then, fits-first, fits-second}
+use Rattle.act.proofs.on_report.fast_round.Statement.{statement}
+use Rattle.act.proofs.on_report.fast_round.Tie as tie
+
+abbrev later : State → Outcome
+later s = andThen (proposesFast s) tests
+
+-- after the notice
+noticed-bounded : (c : tie.After-opens) → Bounded (limit + 1) (stateOf (c .opens .last .0))
+noticed-bounded c = rw (c .opens .ensures .is) (opens-bounded limit _ (c .before .before .before .before .before .pre .1))
+
+noticed-seated : (c : tie.After-opens) → seated (stateOf (c .opens .last .0)) ≡ true
+noticed-seated c = rw (c .opens .ensures .is) (opens-seated _ ∙ c .before .before .before .before .before .pre .3)
+
+room : (c : tie.After-opens) → Fits later (c .opens .last .0) (c .opens .last .1 .0) (c .opens .result)
+room c =
+    let a = c .before .before .before .before .before .args in
+    fits-second opens later (a .s .now) (a .out .now) 0 (c .before .before .before .before .before .pre .2) _ _ _ (c .opens .ensures)
+
+opens-requires : tie.Need-opens-requires
+opens-requires c κs =
+    let b = c .before .before .before .before in
+    let a = b .args in
+    (b .pre .0, bounded-le limit _ (b .pre .1) reach (omega arith), fits-first opens later (a .s .now) (a .out .now) 0 (b .pre .2))
+
+proposes-fast-requires : tie.Need-proposes-fast-requires
+proposes-fast-requires c κs =
+    let d = c .before .before .before .before .before .before .opens in
+    (d .ensures .row, bounded-le (limit + 1) _ (noticed-bounded (c .before .before .before .before .before .before)) reach (omega arith), fits-first proposesFast tests (d .last .0) (d .last .1 .0) (d .result) (room (c .before .before .before .before .before .before)), noticed-seated (c .before .before .before .before .before .before))
+
+tests-requires : tie.Need-tests-requires
+tests-requires c κs =
+    let d = c .before .before .before .before .before .before .proposes-fast .ensures in
+    let m = c .before .before .before .before .before .before .before .before .before .before .before .before .before .opens in (
+      d .row,
+      rw (d .is) (bounded-le (limit + 1 + 1) _ (fast-bounded (limit + 1) _ (noticed-bounded (c .before .before .before .before .before .before .before .before .before .before .before .before .before))) early (omega arith)),
+      fits-second proposesFast tests (m .last .0) (m .last .1 .0) (m .result) (room (c .before .before .before .before .before .before .before .before .before .before .before .before .before)) _ _ _ d,
+    )
+
+same-length : tie.Need-same-length
+same-length c = search needs
+
+same-length-2 : tie.Need-same-length-2
+same-length-2 c = search needs
+
+returns : tie.Need-returns
+returns c = did-then (c .before .before .before .before .before .before .before .before .before .before .before .before .before .before .before .before .before .before .opens .ensures) (did-then (c .before .before .before .before .before .before .before .before .before .before .before .proposes-fast .ensures) (c .before .before .before .before .tests .ensures))
+
+pub fast-round-spec : {M : Type 1} → statement M
+fast-round-spec =
+    tie.close
+    (tie.spec
+    opens-requires
+    proposes-fast-requires
+    tests-requires
+    same-length
+    same-length-2
+    returns)

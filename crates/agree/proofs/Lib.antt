@@ -1,0 +1,4 @@
+pub mod Laying
+pub mod Emptying
+mod Looking
+pub mod Agreeing

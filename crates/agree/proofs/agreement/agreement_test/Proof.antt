@@ -1,0 +1,67 @@
+use native.Mathlib.Omega.{arith}
+use borrow.Author.Needs.{needs}
+use mathlib.Core.Path.{sym, _∙_}
+use Prim.Native.Nat.{_+_}
+use borrow.Author.Tests.{not-true, not-false}
+use Rattle.rules.specs.Rules.{view, agreementTest}
+use Rattle.parts.specs.Bounds.{reach}
+use Rattle.parts.specs.Did.{Did}
+use Rattle.parts.proofs.Bounding.{start-bound}
+use Rattle.parts.proofs.Dids.{did-as, did-none, did-wrote, did-end}
+use Rattle.agree.proofs.Agreeing.{agreement-not, agreement-is}
+use Rattle.agree.proofs.agreement.agreement_test.Statement.{statement}
+use Rattle.agree.proofs.agreement.agreement_test.Tie as tie
+
+did : (c : tie.After-slice-known4) → Did agreementTest (c .before .before .before .before .before .before .before .before .before .before .before .before .before .before .before .args .s .now) (c .before .before .before .before .before .before .before .before .before .before .before .before .before .before .before .args .out .now) (c .before .before .before .before .before .before .before .before .before .before .before .before .before .before .before .args .at)
+    (c .before .before .before .before .before .before .conclude .last .0) (c .before .before .write-view .last .0) (c .before .before .before .before .before .before .before .before .before .before .before .before .before .before .before .args .at + c .before .before .write-view .result)
+did c = did-wrote agreementTest (view _) (c .before .before .before .before .before .before .conclude .ensures)
+    (agreement-is _ _ (sym (c .before .before .before .before .before .before .before .before .before .before .before .agreed .ensures) ∙ not-false _ (c .before .before .before .before .before .before .before .before .before .before .if1 .left)) (c .before .before .before .before .before .before .before .before .view-of .ensures)) (c .before .before .before .before .before .before .before .before .before .before .before .before .before .before .before .pre .2) (c .before .before .write-view .ensures)
+
+agreed-requires : tie.Need-agreed-requires
+agreed-requires c κs = search needs
+
+same-length : tie.Need-same-length
+same-length c = search needs
+
+returns : tie.Need-returns
+returns c =
+    did-as agreementTest (did-none _ _ (c .before .before .before .before .before .pre .0)) (agreement-not _ (sym (c .before .agreed .ensures) ∙ not-true _ (c .if1 .taken)))
+
+view-of-requires : tie.Need-view-of-requires
+view-of-requires c κs =
+    let b = c .before .before .before .before .before .before .pre in
+    let h = start-bound reach _ (b .1) (sym (c .before .before .agreed .ensures) ∙ not-false _ (c .before .if1 .left)) in
+    (b .0, omega arith)
+
+conclude-requires : tie.Need-conclude-requires
+conclude-requires c κs = search needs
+
+write-view-requires : tie.Need-write-view-requires
+write-view-requires c κs = search needs
+
+add-result : tie.Need-add-result
+add-result c = let e = did-end (did c) (c .before .before .before .before .before .before .before .before .before .before .before .before .before .before .before .pre .2) in omega arith
+
+same-length-2 : tie.Need-same-length-2
+same-length-2 c = search needs
+
+same-length-3 : tie.Need-same-length-3
+same-length-3 c = search needs
+
+returns-2 : tie.Need-returns-2
+returns-2 c = did c
+
+pub agreement-test-spec : {M : Type 1} → statement M
+agreement-test-spec =
+    tie.close
+    (tie.spec
+    agreed-requires
+    same-length
+    returns
+    view-of-requires
+    conclude-requires
+    write-view-requires
+    add-result
+    same-length-2
+    same-length-3
+    returns-2)

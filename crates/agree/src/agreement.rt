@@ -1,0 +1,32 @@
+// The agreement test, on the row of an office; inner to the layer of the step.
+use crate::lacking::lowest_lacking;
+use crate::new_view::view_of;
+use crate::round_end::conclude;
+use record_bytes::views::write_view;
+ghost use mathlib.Core.Path.{_≡_};
+ghost use Rattle.rules.specs.Rules.{agreed, agreementTest};
+ghost use Rattle.row.specs.Row.{Row, stateOf};
+ghost use Rattle.parts.specs.Did.{Did, Fits};
+ghost use Rattle.parts.specs.Bounds.{reach, Bounded};
+
+fn agreed(s: &[u32]) -> bool
+    requires { ⌜ Row (now s) ⌝ }
+    ensures { λ r. ⌜ r ≡ agreed (stateOf (now (s .entry))) ⌝ }
+{
+    if row::mode(s) == 0 {
+        return false;
+    }
+    lowest_lacking(s) == 16
+}
+
+pub fn agreement_test(s: &mut [u32], out: &mut [u8], at: usize) -> usize
+    requires { ⌜ Row (now s) × Bounded reach (stateOf (now s)) × Fits agreementTest (now s) (now out) at ⌝ }
+    ensures { λ n. ⌜ Did agreementTest (now (s .entry)) (now (out .entry)) at (now (s .exit)) (now (out .exit)) n ⌝ }
+{
+    if !agreed(s) {
+        return at;
+    }
+    let view = view_of(s);
+    conclude(s, view);
+    at + write_view(out, at, view)
+}

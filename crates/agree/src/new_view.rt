@@ -1,0 +1,53 @@
+// The view that the stored proposals of an agreement give, on the row of an office; inner to the layer of the step.
+use parts::counted;
+use parts::larger;
+use records::View;
+use seats::SeatSet;
+use seats::offices::serves;
+ghost use mathlib.Core.Path.{_≡_};
+ghost use Prim.Native.Nat.{_+_, _<_, _^_};
+ghost use Rattle.laws.specs.Fin.{largest};
+ghost use Rattle.rules.specs.Rules.{startOf, viewOf};
+ghost use Rattle.row.specs.Row.{Row, stateOf};
+ghost use Rattle.agree.specs.Starts.{laidOf};
+
+// The start numbers of a view, 0 for an office without a seat in the members, and the largest of them.
+pub struct Laid {
+    pub starts: [u32; 16],
+    pub largest: u32,
+}
+
+// The start numbers of the net view's offices. The largest is a running value: at each office that of the numbers copied so far, 0
+// before the first.
+fn lay_starts(s: &[u32], net: SeatSet) -> Laid
+    requires { ⌜ Row (now s) × (net ≡ stateOf (now s) .net) ⌝ }
+    ensures { λ r. ⌜ r ≡ laidOf 16 (stateOf (now (s .entry))) ⌝ }
+{
+    let mut starts = [0u32; 16];
+    let mut largest: u32 = 0;
+    let mut copied: usize = 0;
+    while copied < 16 {
+        let n = counted(serves(net, copied as u8), row::stored_start(s, copied));
+        starts[copied] = n;
+        largest = larger(n, largest);
+        copied += 1;
+    }
+    Laid {
+        starts: starts,
+        largest: largest,
+    }
+}
+
+pub fn view_of(s: &[u32]) -> View
+    requires { ⌜ Row (now s) × (largest 16 (startOf (stateOf (now s))) + 1 < 2 ^ 32) ⌝ }
+    ensures { λ r. ⌜ r ≡ viewOf (stateOf (now (s .entry))) ⌝ }
+{
+    let net = row::net(s);
+    let laid = lay_starts(s, net);
+    let starts = laid.starts;
+    View {
+        number: 1 + laid.largest,
+        members: net,
+        starts: starts,
+    }
+}

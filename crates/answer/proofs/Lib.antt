@@ -1,2 +1,0 @@
-pub mod Holding
-pub mod Answering

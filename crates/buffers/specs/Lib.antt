@@ -1,0 +1,3 @@
+pub mod Room
+pub mod Place
+pub mod Places

@@ -1,0 +1,34 @@
+-- Where the program stands in its two buffers of 65,536 bytes.
+use mathlib.Core.Path.{_≡_}
+use mathlib.Core.Bool.{Bool, not, _&&_, _||_}
+use mathlib.Core.List.{List, _++_}
+use Prim.Native.Nat.{ℕ, _-_, _≤_}
+use lib.ListN.{length, take, drop}
+use lib.Dec.{eqb, ltb}
+use Rattle.records.specs.Run.{runCheck}
+use Rattle.buffers.specs.declared.input.Place.{Place}
+
+pub record Within (p : Place) : Type 0 where
+  pub unread : p .at ≤ p .end
+  pub read : p .end ≤ 65536
+  pub unwritten : p .filled ≤ 65536
+
+-- the bytes read and not yet answered, and those answered and not yet written
+unfoldable pub windowOf : Place → List ℕ → List ℕ
+windowOf p i = take (p .end - p .at) (drop (p .at) i)
+
+unfoldable pub unwrittenOf : Place → List ℕ → List ℕ
+unwrittenOf p o = take (p .filled) o
+
+-- more input can change what stands in front
+unfoldable pub waitsOf : Bool → List ℕ → Bool
+waitsOf ended w = not ended && (ltb (length w) 2 || eqb (runCheck w) 5)
+
+-- reading keeps what was there and appends what was read; nothing read is the end of the input
+pub record Refilled (p : Place) (i : List ℕ) (r : Place) (i′ : List ℕ) : Type 0 where
+  pub within : Within r
+  pub number : r .number ≡ p .number
+  pub filled : r .filled ≡ p .filled
+  pub got : List ℕ
+  pub window : windowOf r i′ ≡ windowOf p i ++ got
+  pub ended : r .ended ≡ eqb (length got) 0

@@ -1,0 +1,82 @@
+// The input buffer of the program, inner to it: 65,536 bytes, of them those read and not yet answered; and where the program stands in both buffers.
+ghost use mathlib.Core.Path.{_≡_};
+ghost use Prim.Native.Nat.{_+_, _-_, _<_, _≤_};
+ghost use lib.ListN.{length, take, drop};
+ghost use lib.Seq.{sets};
+ghost use Rattle.text.specs.Lines.{frontOf};
+ghost use Rattle.buffers.specs.Place.{Within, windowOf, waitsOf, Refilled};
+
+// Of the input buffer the bytes from `at` to `end` are still to be answered, of the output buffer the first `filled` still to be
+// written. `ended` says that the input has no more, `number` how many records were answered.
+pub struct Place {
+    pub ended: bool,
+    pub at: usize,
+    pub end: usize,
+    pub filled: usize,
+    pub number: u64,
+}
+
+// The n bytes from a place on go to the front.
+fn to_front(buf: &mut [u8], at: usize, n: usize)
+    requires { ⌜ at + n ≤ length (now buf) ⌝ }
+    ensures { λ _. ⌜ now (buf .exit) ≡ sets (now (buf .entry)) 0 (take n (drop at (now (buf .entry)))) ⌝ }
+{
+    let mut i: usize = 0;
+    while i < n {
+        buf[i] = buf[at + i];
+        i += 1;
+    }
+}
+
+// What the input has now, at most as much as fits; 0 at its end, and where it cannot be read.
+fn read_some(part: &mut [u8]) -> usize
+    requires { ⌜ 0 < length (now part) ⌝ }
+    ensures { λ r. ⌜ r ≤ length (now (part .exit)) ⌝ }
+{
+    let got = libc::read(0, part);
+    io::count(got, part)
+}
+
+// What is still to be answered goes to the front of the buffer, and what the input has now behind it.
+pub fn refill(p: Place, input: &mut [u8]) -> Place
+    requires { ⌜ Within p × (length (now input) ≡ 65536) × (p .end - p .at < 65536) ⌝ }
+    ensures { λ r. ⌜ Refilled p (now (input .entry)) r (now (input .exit)) ⌝ }
+{
+    let n = p.end - p.at;
+    to_front(input, p.at, n);
+    let got = read_some(&mut input[n..]);
+    Place {
+        ended: got == 0,
+        at: 0,
+        end: n + got,
+        filled: p.filled,
+        number: p.number,
+    }
+}
+
+// Whether more input can change what stands in front.
+pub fn waits(p: Place, input: &[u8]) -> bool
+    requires { ⌜ Within p × (length (now input) ≡ 65536) ⌝ }
+    ensures { λ r. ⌜ r ≡ waitsOf (p .ended) (windowOf p (now (input .entry))) ⌝ }
+{
+    if p.ended {
+        return false;
+    }
+    let at = p.at;
+    let end = p.end;
+    let run = &input[at..end];
+    run.len() < 2 || records::run::run_check(run) == 5
+}
+
+// The record in front; the rest of the input where it is refused by 4 or 5.
+pub fn front<'a>(input: &'a [u8], at: usize, end: usize) -> &'a [u8]
+    requires { ⌜ (at ≤ end) × (end ≤ length (now input)) ⌝ }
+    ensures { λ r. ⌜ now r ≡ frontOf (take (end - at) (drop at (now (input .entry)))) ⌝ }
+{
+    let run = &input[at..end];
+    if records::run::run_check(run) == 0 {
+        records::run::run_first(run)
+    } else {
+        run
+    }
+}

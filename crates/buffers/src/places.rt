@@ -1,0 +1,65 @@
+// Where the program stands once it has written, and once it has a line to write; inner to the program.
+use crate::input::Place;
+use crate::output::make_room;
+ghost use mathlib.Core.Path.{_≡_};
+ghost use Prim.Native.Nat.{_+_, _<_, _≤_, _^_};
+ghost use lib.ListN.{length};
+ghost use Rattle.laws.specs.Upd.{ifb};
+ghost use Rattle.buffers.specs.Places.{Emptied, Told};
+use step::answers::Answer;
+
+// What is unwritten is written before the program waits, and where a line could have no room.
+pub fn emptied(p: Place, output: &[u8], waiting: bool) -> Place
+    requires { ⌜ p .filled ≤ length (now output) ⌝ }
+    ensures { λ r. ⌜ Emptied p waiting r ⌝ }
+{
+    let sent = make_room(output, p.filled, waiting);
+    Place {
+        ended: p.ended,
+        at: p.at,
+        end: p.end,
+        filled: p.filled - sent,
+        number: p.number,
+    }
+}
+
+// How many of the bytes written a line shows.
+fn shown(traced: bool, written: usize) -> usize
+    ensures { λ r. ⌜ (r ≡ ifb traced written 0) × (r ≤ written) ⌝ }
+{
+    if traced { written } else { 0 }
+}
+
+// The line of a record of so many bytes behind what is unwritten.
+pub fn told(
+    p: Place,
+    taken: usize,
+    a: Answer,
+    view: u32,
+    out: &[u8],
+    output: &mut [u8],
+    traced: bool,
+) -> Place
+    requires { ⌜ (p .at + taken ≤ 65536) × (p .filled + 449 ≤ 65536) × (p .number + 1 < 2 ^ 64) × (length (now output) ≡ 65536) × (a .written ≤ 182)
+        × (length (now out) ≡ 182) ⌝ }
+    ensures { λ r. ⌜ Told traced p taken a view (now (out .entry)) (now (output .entry)) r (now (output .exit)) ⌝ }
+{
+    let n = shown(traced, a.written);
+    let number = p.number + 1;
+    let filled = text::put_line(
+        output,
+        p.filled,
+        number,
+        a.refusal,
+        a.written,
+        view,
+        &out[..n],
+    );
+    Place {
+        ended: p.ended,
+        at: p.at + taken,
+        end: p.end,
+        filled,
+        number,
+    }
+}

@@ -1,0 +1,2 @@
+pub mod InSeatWords
+pub mod Called

@@ -1,0 +1,20 @@
+-- The step as a call from C: one number as its answer, the words and the bytes at the end.
+use mathlib.Core.List.{List}
+use Prim.Native.Nat.{ℕ}
+use lib.ListN.{length}
+use lib.Seq.{sets}
+use Rattle.rules.specs.Refusals.{allBytes, size}
+use Rattle.step.specs.Step.{RowResult, stepRow}
+use Rattle.calls.specs.Number.{callNumber}
+
+pub record Called : Type 0 where
+  pub answer : ℕ
+  pub words : List ℕ
+  pub bytes : List ℕ
+
+-- the answer's value is how many bytes were written; they stand at the front of the output
+abbrev pub calledOf : List ℕ → RowResult → Called
+calledOf o q = record { answer = callNumber (size (q .written)) (q .refusal); words = q .words; bytes = sets o 0 (allBytes (q .written)) }
+
+unfoldable pub callOf : List ℕ → List ℕ → List ℕ → Called
+callOf ws b o = calledOf o (stepRow ws b (length o))

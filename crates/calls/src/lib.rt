@@ -1,0 +1,7 @@
+// The calls for C; include/room.h declares them.
+mod along;
+mod number;
+mod office;
+mod questions;
+mod seat;
+mod waits;

@@ -1,0 +1,65 @@
+// The checks behind a sheet: 8, 10 and 17 of what is asked, 4, 6 and 8 of a record; inner to the sheet.
+use desk::checks::view_above;
+use record_bytes::syncs::SyncRead;
+use record_bytes::syncs::read_sync;
+use records::View;
+use records::layout;
+use records::numbers::LIMIT;
+use records::numbers::stray_number;
+use seats::SEATS;
+ghost use mathlib.Core.Path.{_≡_};
+ghost use lib.ListN.{length};
+ghost use Rattle.laws.specs.Checks.{firstOf};
+ghost use Rattle.laws.specs.Upd.{ifb};
+ghost use Rattle.records.specs.Layout.{syncLength};
+ghost use Rattle.sheet.specs.Sheet.{noSheet, askedAbove, askChecks};
+ghost use Rattle.came_along.specs.Record.{recordRead};
+
+// The most records of a sheet.
+const RECORDS: usize = 512;
+
+// A reason where it applies, else what the rest of the list gives.
+fn reason(applies: bool, number: u8, rest: u8) -> u8
+    ensures { λ r. ⌜ r ≡ ifb applies number rest ⌝ }
+{
+    if applies { number } else { rest }
+}
+
+// Check 8 of what is asked.
+fn asked_above(v: View, previous: u32) -> bool
+    ensures { λ r. ⌜ r ≡ askedAbove v previous ⌝ }
+{
+    view_above(v) | (LIMIT < previous)
+}
+
+// Check 17 of a sheet of this length.
+fn no_sheet(length: usize) -> bool
+    ensures { λ r. ⌜ r ≡ noSheet length ⌝ }
+{
+    (RECORDS * layout::SYNC_LENGTH < length) | (length % layout::SYNC_LENGTH != 0)
+}
+
+// Checks 8, 10 and 17: the first that applies to a view that was read, one's own number and a sheet of this length, 0 where none does.
+pub fn ask_refusal(v: View, previous: u32, length: usize) -> u8
+    ensures { λ r. ⌜ r ≡ firstOf (askChecks v previous length) ⌝ }
+{
+    let above = asked_above(v, previous);
+    let starts = v.starts;
+    let stray = stray_number(v.members, starts);
+    let none = no_sheet(length);
+    reason(above, 8, reason(stray, 10, reason(none, 17, 0)))
+}
+
+// A record of a sheet, with the first that applies of checks 4, 6 and 8, 0 where none does.
+pub fn read_record(bytes: &[u8]) -> SyncRead
+    requires { ⌜ length (now bytes) ≡ syncLength ⌝ }
+    ensures { λ r. ⌜ r ≡ recordRead (now (bytes .entry)) ⌝ }
+{
+    let read = read_sync(bytes);
+    let sync = read.sync;
+    let other = read.refusal != 0;
+    let outside = SEATS <= sync.seat;
+    let above = (LIMIT < sync.start) | (LIMIT < sync.previous);
+    let refusal = reason(other, 4, reason(outside, 6, reason(above, 8, 0)));
+    SyncRead { refusal, sync }
+}

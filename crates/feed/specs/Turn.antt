@@ -1,0 +1,58 @@
+-- What a turn of the program does, and what it keeps.
+use mathlib.Core.Path.{_≡_}
+use mathlib.Core.Bool.{Bool, true, false}
+use mathlib.Core.Logic.{_⊎_}
+use mathlib.Core.List.{List, [], _++_}
+use Prim.Native.Nat.{ℕ, _+_, _≤_, _<_}
+use lib.ListN.{length, drop}
+use Rattle.laws.specs.Upd.{ifb}
+use Rattle.records.specs.Run.{runCheck}
+use Rattle.row.specs.Row.{stateOf}
+use Rattle.text.specs.Lines.{frontOf, linesOf}
+use Rattle.feed.specs.Held.{Sound}
+use Rattle.buffers.specs.Place.{Within, windowOf, unwrittenOf, waitsOf}
+use Rattle.buffers.specs.declared.input.Place.{Place}
+use Rattle.buffers.specs.Room.{roomFor}
+use Rattle.feed.specs.declared.answer.Acted.{Acted}
+use Rattle.feed.specs.declared.turn.Turned.{Turned}
+
+-- The text that is due stays due. `got` was read, `printed` was put behind what is unwritten. The text for what was read and for all
+-- later bytes f, of which there are none once the input has ended, is what was printed and the text for the rest; where the program
+-- stops, nothing more is due.
+pub record Keeps (traced : Bool) (ws : List ℕ) (ended : Bool) (n : ℕ) (w u : List ℕ) (more : Bool) (ws′ : List ℕ) (ended′ : Bool) (n′ : ℕ)
+    (w′ u′ : List ℕ) : Type 0 where
+  pub got : List ℕ
+  pub printed : List ℕ
+  pub buffer : u′ ≡ u ++ printed
+  pub text : (f : List ℕ) → (ended′ ≡ true → f ≡ [])
+      → linesOf traced (stateOf ws) n (w ++ (got ++ f))
+      ≡ printed ++ ifb more (linesOf traced (stateOf ws′) n′ (w′ ++ f)) []
+  pub end : ended ≡ true → (ended′ ≡ true) × (got ≡ [])
+  pub number : n′ ≤ n + 1
+  -- a whole record, or what the input ended with, is taken off
+  pub took : (runCheck w ≡ 0) ⊎ (ended ≡ true) → 0 < length w → (n′ ≡ n + 1) × (w ≡ frontOf w ++ w′)
+  -- where more input can change what stands in front, more is read, or the input has ended
+  pub read : waitsOf ended w ≡ true → (0 < length got) ⊎ (ended′ ≡ true)
+  -- where nothing is left, the program stops
+  pub stops : ended ≡ true → length w ≡ 0 → more ≡ false
+
+pub record Acts (traced : Bool) (ws : List ℕ) (p : Place) (i o : List ℕ) (r : Acted) (ws′ i′ o′ : List ℕ) : Type 0 where
+  pub within : Within (r .place)
+  pub sound : Sound ws′
+  pub keeps : Keeps traced ws (p .ended) (p .number) (windowOf p i) (unwrittenOf p o) (r .more) ws′
+      (r .place .ended) (r .place .number) (windowOf (r .place) i′) (unwrittenOf (r .place) o′)
+
+-- A turn writes the first bytes of what is unwritten, as many as were sent, and acts on the rest. It fails only where a write does.
+pub record Turns (traced : Bool) (ws : List ℕ) (p : Place) (i o : List ℕ) (r : Turned) (ws′ i′ o′ : List ℕ) : Type 0 where
+  pub within : Within (r .place)
+  pub sound : Sound ws′
+  pub number : r .place .number ≤ p .number + 1
+  pub sent : r .sent ≤ length (unwrittenOf p o)
+  -- nothing is written while a line has room, unless the program waits
+  pub unasked : roomFor (p .filled) (waitsOf (p .ended) (windowOf p i)) ≡ true → r .sent ≡ 0
+  pub keeps : r .failed ≡ false
+      → Keeps traced ws (p .ended) (p .number) (windowOf p i) (drop (r .sent) (unwrittenOf p o)) (r .more) ws′
+      (r .place .ended) (r .place .number) (windowOf (r .place) i′) (unwrittenOf (r .place) o′)
+  -- nothing is left unwritten while the program waits
+  pub shown : r .failed ≡ false → waitsOf (p .ended) (windowOf p i) ≡ true → drop (r .sent) (unwrittenOf p o) ≡ []
+  pub failed : r .failed ≡ true → (r .sent ≡ 0) × (0 < length (unwrittenOf p o))

@@ -1,0 +1,2 @@
+pub mod Looks
+mod SlowCases

@@ -1,0 +1,110 @@
+use native.Mathlib.Omega.{arith}
+use borrow.Author.Needs.{needs}
+use mathlib.Core.Path.{_≡_, sym, ap, _∙_}
+use Prim.Native.Nat.{_+_}
+use Rattle.row.specs.Row.{stateOf}
+use Rattle.rules.specs.State.{None, kindOf}
+use Rattle.rules.specs.Rules.{andThen, opens, slowCalled, proposesSlow, slowTest}
+use Rattle.parts.specs.Bounds.{early, reach}
+use Rattle.parts.specs.Did.{Fits}
+use Rattle.parts.proofs.Bounding.{bounded-le, opens-bounded}
+use Rattle.parts.proofs.Dids.{did-as, did-then, did-none, fits-as, fits-first, fits-second}
+use Rattle.rule_laws.proofs.Modes.{kind-none}
+use Rattle.propose.proofs.Looks.{called-is}
+use Rattle.propose.proofs.SlowCases.{slow-first, slow-made, slow-quiet}
+use Rattle.propose.proofs.slow_test.slow_test.Statement.{statement}
+use Rattle.propose.proofs.slow_test.slow_test.Tie as tie
+
+-- no agreement is under way
+idle : (c : tie.Then1) → stateOf (c .before .before .before .before .before .args .s .now) .mode ≡ None
+idle c = kind-none _ (sym (c .before .mode .ensures) ∙ c .if1 .taken)
+
+room : (c : tie.Then1) → Fits (λ s. andThen (opens s) proposesSlow) (c .before .before .before .before .before .args .s .now) (c .before .before .before .before .before .args .out .now) (c .before .before .before .before .before .args .at)
+room c =
+    let a = c .before .before .before .before .before .args in
+    fits-as (λ s. andThen (opens s) proposesSlow) slowTest (a .s .now) (a .out .now) (a .at) (slow-first _ (idle c)) (c .before .before .before .before .before .pre .2)
+
+-- one is
+busy : (c : tie.Else1) → stateOf (c .before .before .before .before .before .args .s .now) .mode ≡ None → ⊥
+busy c e = c .if1 .left (c .before .mode .ensures ∙ ap kindOf e)
+
+called : (c : tie.After-slow-called) → c .slow-called .result ≡ slowCalled (stateOf (c .before .before .before .before .before .before .before .before .args .s .now))
+called c = c .slow-called .ensures ∙ called-is (stateOf (c .before .before .before .before .before .before .before .before .args .s .now)) _ _ (c .before .before .before .before .mode .ensures) (c .before .look-at-all .ensures)
+
+mode-requires : tie.Need-mode-requires
+mode-requires c κs = search needs
+
+opens-requires : tie.Need-opens-requires
+opens-requires c κs =
+    let b = c .before .before .before .before .before .before .before in
+    let a = b .args in
+    (b .pre .0, bounded-le early _ (b .pre .1) reach (omega arith), fits-first opens proposesSlow (a .s .now) (a .out .now) (a .at) (room (c .before .before)))
+
+proposes-slow-requires : tie.Need-proposes-slow-requires
+proposes-slow-requires c κs =
+    let b = c .before .before .before .before .before .before .before .before .before .before .before .before .before .before in
+    let a = b .args in
+    let d = c .before .before .before .before .before .before .opens .ensures in (
+      d .row,
+      rw (d .is) (bounded-le (early + 1) _ (opens-bounded early _ (b .pre .1)) reach (omega arith)),
+      fits-second opens proposesSlow (a .s .now) (a .out .now) (a .at) (room (c .before .before .before .before .before .before .before .before .before)) _ _ _ d,
+    )
+
+same-length : tie.Need-same-length
+same-length c = search needs
+
+same-length-2 : tie.Need-same-length-2
+same-length-2 c = search needs
+
+returns : tie.Need-returns
+returns c = did-as slowTest (did-then (c .before .before .before .before .before .before .before .before .before .before .before .opens .ensures) (c .before .before .before .before .proposes-slow .ensures)) (slow-first _ (idle (c .before .before .before .before .before .before .before .before .before .before .before .before .before .before)))
+
+look-at-all-requires : tie.Need-look-at-all-requires
+look-at-all-requires c κs = search needs
+
+slow-called-requires : tie.Need-slow-called-requires
+slow-called-requires c κs = search needs
+
+propose-requires : tie.Need-propose-requires
+propose-requires c κs =
+    let b = c .before .before .before .before .before .before .before .before .before .before .before in
+    let a = b .args in
+    let e = slow-made (stateOf (a .s .now)) (busy (c .before .before .before .before .before .before)) (sym (called (c .before .before .before)) ∙ c .before .before .if2 .taken) in (
+      (b .pre .0, bounded-le early _ (b .pre .1) reach (omega arith), fits-as proposesSlow slowTest (a .s .now) (a .out .now) (a .at) e (b .pre .2)),
+      c .before .before .before .before .look-at-all .ensures,
+    )
+
+same-length-3 : tie.Need-same-length-3
+same-length-3 c = search needs
+
+same-length-4 : tie.Need-same-length-4
+same-length-4 c = search needs
+
+returns-2 : tie.Need-returns-2
+returns-2 c =
+    did-as slowTest (c .before .before .before .before .propose .ensures) (slow-made _ (busy (c .before .before .before .before .before .before .before .before .before .before .before)) (sym (called (c .before .before .before .before .before .before .before .before)) ∙ c .before .before .before .before .before .before .before .if2 .taken))
+
+same-length-5 : tie.Need-same-length-5
+same-length-5 c = search needs
+
+returns-3 : tie.Need-returns-3
+returns-3 c = did-as slowTest (did-none _ _ (c .before .before .before .before .before .before .before .before .before .pre .0)) (slow-quiet _ (sym (called (c .before)) ∙ c .if2 .left))
+
+pub slow-test-spec : {M : Type 1} → statement M
+slow-test-spec =
+    tie.close
+    (tie.spec
+    mode-requires
+    opens-requires
+    proposes-slow-requires
+    same-length
+    same-length-2
+    returns
+    look-at-all-requires
+    slow-called-requires
+    propose-requires
+    same-length-3
+    same-length-4
+    returns-2
+    same-length-5
+    returns-3)

@@ -1,0 +1,5 @@
+// The proposals that an office makes: its own, fast and slow.
+pub mod fast;
+mod own;
+mod slow_look;
+pub mod slow_test;

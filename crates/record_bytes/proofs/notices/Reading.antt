@@ -1,0 +1,15 @@
+-- What the reader answers: the number by its own checks, and the record where that is 0.
+use mathlib.Core.Path.{_≡_, refl}
+use mathlib.Core.List.{List}
+use Prim.Native.Nat.{ℕ}
+use Rattle.records.specs.Layout.{noticeMark, noticeLength, decodeNotice, checkOwn}
+use Rattle.record_bytes.specs.notices.Read.{readNotice}
+
+module _ (b : List ℕ) where
+  pub notice-refusal : readNotice b .refusal ≡ checkOwn noticeMark noticeLength b
+  unfolding readNotice
+  notice-refusal = refl
+
+  pub notice-decoded : readNotice b .refusal ≡ 0 → readNotice b .notice ≡ decodeNotice b
+  unfolding readNotice
+  notice-decoded z = rw z

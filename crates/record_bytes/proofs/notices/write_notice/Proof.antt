@@ -1,0 +1,58 @@
+use native.Mathlib.Omega.{arith}
+use Rattle.laws.specs.Big.{bytes4, bytes8}
+use Rattle.laws.proofs.Big.{Wrote, wrote-then}
+use Rattle.records.proofs.Write.{placed-in, placed-out}
+use Rattle.records.proofs.Lengths.{notice-length}
+use Rattle.records.specs.Layout.{noticeMark, noticeLength, encodeNotice}
+use borrow.Author.Needs.{needs}
+use Rattle.record_bytes.proofs.notices.write_notice.Statement.{statement}
+use Rattle.record_bytes.proofs.notices.write_notice.Tie as tie
+
+room-requires : tie.Need-room-requires
+room-requires c κs = search needs
+
+returns : tie.Need-returns
+unfolding encodeNotice
+returns c =
+    let s = c .before .before .before in
+    let r = s .args .n in
+    placed-out (s .args .out .now) (s .args .at) (encodeNotice r) noticeLength (notice-length r) (omega arith)
+
+put-mark-requires : tie.Need-put-mark-requires
+put-mark-requires c κs = search needs
+
+put32-requires : tie.Need-put32-requires
+put32-requires c κs = search needs
+
+put64-requires : tie.Need-put64-requires
+put64-requires c κs = search needs
+
+same-length : tie.Need-same-length
+same-length c = search needs
+
+returns-2 : tie.Need-returns-2
+unfolding encodeNotice
+returns-2 c =
+    let c2 = c .before .before in
+    let c1 = c2 .before .before .before .before in
+    let c0 = c1 .before .before .before .before in
+    let s = c0 .before .before .before .before .before .before in
+    let o = s .args .out .now in
+    let at = s .args .at in
+    let r = s .args .n in
+    let e0 : Wrote o at noticeMark _ = record { is = c0 .put-mark .ensures } in
+    let e1 = wrote-then (bytes4 (r .start)) e0 (c1 .put32 .ensures) in
+    let e2 = wrote-then (bytes8 (r .members .bits)) e1 (c2 .put64 .ensures) in
+    placed-in o at (encodeNotice r) noticeLength (notice-length r) _ (omega arith) (e2 .is)
+
+pub write-notice-spec : {M : Type 1} → statement M
+write-notice-spec =
+    tie.close
+    (tie.spec
+    room-requires
+    returns
+    put-mark-requires
+    put32-requires
+    put64-requires
+    same-length
+    returns-2)

@@ -1,0 +1,15 @@
+-- What the reader answers: the number by its own checks, and the record where that is 0.
+use mathlib.Core.Path.{_≡_, refl}
+use mathlib.Core.List.{List}
+use Prim.Native.Nat.{ℕ}
+use Rattle.records.specs.Layout.{reportMark, reportLength, decodeReport, checkOwn}
+use Rattle.record_bytes.specs.reports.Read.{readReport}
+
+module _ (b : List ℕ) where
+  pub report-refusal : readReport b .refusal ≡ checkOwn reportMark reportLength b
+  unfolding readReport
+  report-refusal = refl
+
+  pub report-decoded : readReport b .refusal ≡ 0 → readReport b .report ≡ decodeReport b
+  unfolding readReport
+  report-decoded z = rw z

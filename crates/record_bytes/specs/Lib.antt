@@ -1,0 +1,5 @@
+pub mod reports
+pub mod proposals
+pub mod notices
+pub mod views
+pub mod syncs

@@ -1,0 +1,66 @@
+// Start notices: the reader of a lone one, total, with the two checks on its own mark and length; and the writer.
+use crate::own::check_own;
+use records::Notice;
+use records::bytes::get32;
+use records::bytes::get64;
+use records::bytes::put_mark;
+use records::bytes::put32;
+use records::bytes::put64;
+use records::bytes::room;
+use records::layout;
+use seats::SeatSet;
+ghost use mathlib.Core.Path.{_≡_};
+ghost use lib.ListN.{length};
+ghost use Rattle.records.specs.Layout.{noticeLength, encodeNotice, decodeNotice};
+ghost use Rattle.records.specs.Write.{Placed};
+ghost use Rattle.record_bytes.specs.notices.Read.{readNotice};
+
+// What the reader answers: the number by checks 4 and 5, and the record, zeros where it is refused.
+pub struct NoticeRead {
+    pub refusal: u8,
+    pub notice: Notice,
+}
+
+fn decode_notice(bytes: &[u8]) -> Notice
+    requires { ⌜ length (now bytes) ≡ noticeLength ⌝ }
+    ensures { λ r. ⌜ r ≡ decodeNotice (now (bytes .entry)) ⌝ }
+{
+    Notice {
+        start: get32(bytes, layout::NOTICE_START),
+        members: SeatSet {
+            bits: get64(bytes, layout::NOTICE_MEMBERS),
+        },
+    }
+}
+
+pub fn read_notice(bytes: &[u8]) -> NoticeRead
+    ensures { λ r. ⌜ r ≡ readNotice (now (bytes .entry)) ⌝ }
+{
+    let refusal = check_own(&layout::NOTICE_MARK, layout::NOTICE_LENGTH, bytes);
+    if refusal != 0 {
+        return NoticeRead {
+            refusal,
+            notice: Notice {
+                start: 0,
+                members: SeatSet::EMPTY,
+            },
+        };
+    }
+    NoticeRead {
+        refusal,
+        notice: decode_notice(bytes),
+    }
+}
+
+// The record at a place of the output, or nothing where it has no room there. The count of bytes written comes back.
+pub fn write_notice(out: &mut [u8], at: usize, n: Notice) -> usize
+    ensures { λ r. ⌜ Placed (now (out .entry)) at (encodeNotice n) r (now (out .exit)) ⌝ }
+{
+    if room(out.len(), at) < layout::NOTICE_LENGTH {
+        return 0;
+    }
+    put_mark(out, at, &layout::NOTICE_MARK);
+    put32(out, at, layout::NOTICE_START, n.start);
+    put64(out, at, layout::NOTICE_MEMBERS, n.members.bits);
+    layout::NOTICE_LENGTH
+}

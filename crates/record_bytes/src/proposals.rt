@@ -1,0 +1,82 @@
+// Proposals: the reader of a lone one, total, with the two checks on its own mark and length; and the writer.
+use crate::own::check_own;
+use records::Proposal;
+use records::bytes::get_sixteen;
+use records::bytes::get32;
+use records::bytes::get64;
+use records::bytes::put_mark;
+use records::bytes::put_sixteen;
+use records::bytes::put8;
+use records::bytes::put32;
+use records::bytes::put64;
+use records::bytes::room;
+use records::layout;
+use seats::SeatSet;
+ghost use mathlib.Core.Path.{_≡_};
+ghost use lib.ListN.{length};
+ghost use Rattle.records.specs.Layout.{proposalLength, encodeProposal, decodeProposal};
+ghost use Rattle.records.specs.Write.{Placed};
+ghost use Rattle.record_bytes.specs.proposals.Read.{readProposal};
+
+// What the reader answers: the number by checks 4 and 5, and the record, zeros where it is refused.
+pub struct ProposalRead {
+    pub refusal: u8,
+    pub proposal: Proposal,
+}
+
+fn decode_proposal(bytes: &[u8]) -> Proposal
+    requires { ⌜ length (now bytes) ≡ proposalLength ⌝ }
+    ensures { λ r. ⌜ r ≡ decodeProposal (now (bytes .entry)) ⌝ }
+{
+    Proposal {
+        sender: bytes[layout::SENDER],
+        kind: bytes[layout::KIND],
+        members: SeatSet {
+            bits: get64(bytes, layout::PROPOSAL_MEMBERS),
+        },
+        start: get32(bytes, layout::PROPOSAL_START),
+        number: get32(bytes, layout::PROPOSAL_NUMBER),
+        used: get_sixteen(bytes, layout::USED),
+    }
+}
+
+pub fn read_proposal(bytes: &[u8]) -> ProposalRead
+    ensures { λ r. ⌜ r ≡ readProposal (now (bytes .entry)) ⌝ }
+{
+    let refusal = check_own(&layout::PROPOSAL_MARK, layout::PROPOSAL_LENGTH, bytes);
+    if refusal != 0 {
+        return ProposalRead {
+            refusal,
+            proposal: Proposal {
+                sender: 0,
+                kind: 0,
+                members: SeatSet::EMPTY,
+                start: 0,
+                number: 0,
+                used: [0; 16],
+            },
+        };
+    }
+    ProposalRead {
+        refusal,
+        proposal: decode_proposal(bytes),
+    }
+}
+
+// The record at a place of the output, or nothing where it has no room there. The count of bytes written comes back.
+pub fn write_proposal(out: &mut [u8], at: usize, p: Proposal) -> usize
+    ensures { λ n. ⌜ Placed (now (out .entry)) at (encodeProposal p) n (now (out .exit)) ⌝ }
+{
+    if room(out.len(), at) < layout::PROPOSAL_LENGTH {
+        return 0;
+    }
+    let used = p.used;
+    put_mark(out, at, &layout::PROPOSAL_MARK);
+    put8(out, at, layout::SENDER, p.sender);
+    put8(out, at, layout::KIND, p.kind);
+    put64(out, at, layout::PROPOSAL_MEMBERS, p.members.bits);
+    put32(out, at, layout::PROPOSAL_START, p.start);
+    put32(out, at, layout::PROPOSAL_NUMBER, p.number);
+    put_sixteen(out, at, layout::USED, used);
+    layout::PROPOSAL_LENGTH
+}

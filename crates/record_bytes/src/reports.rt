@@ -1,0 +1,66 @@
+// Reports: the reader of a lone one, total, with the two checks on its own mark and length; and the writer.
+use crate::own::check_own;
+use records::Report;
+use records::bytes::get64;
+use records::bytes::put_mark;
+use records::bytes::put64;
+use records::bytes::room;
+use records::layout;
+use seats::SeatSet;
+ghost use mathlib.Core.Path.{_≡_};
+ghost use lib.ListN.{length};
+ghost use Rattle.records.specs.Layout.{reportLength, encodeReport, decodeReport};
+ghost use Rattle.records.specs.Write.{Placed};
+ghost use Rattle.record_bytes.specs.reports.Read.{readReport};
+
+// What the reader answers: the number by checks 4 and 5, and the record, zeros where it is refused.
+pub struct ReportRead {
+    pub refusal: u8,
+    pub report: Report,
+}
+
+fn decode_report(bytes: &[u8]) -> Report
+    requires { ⌜ length (now bytes) ≡ reportLength ⌝ }
+    ensures { λ r. ⌜ r ≡ decodeReport (now (bytes .entry)) ⌝ }
+{
+    Report {
+        joining: SeatSet {
+            bits: get64(bytes, layout::JOINING),
+        },
+        leaving: SeatSet {
+            bits: get64(bytes, layout::LEAVING),
+        },
+    }
+}
+
+pub fn read_report(bytes: &[u8]) -> ReportRead
+    ensures { λ r. ⌜ r ≡ readReport (now (bytes .entry)) ⌝ }
+{
+    let refusal = check_own(&layout::REPORT_MARK, layout::REPORT_LENGTH, bytes);
+    if refusal != 0 {
+        return ReportRead {
+            refusal,
+            report: Report {
+                joining: SeatSet::EMPTY,
+                leaving: SeatSet::EMPTY,
+            },
+        };
+    }
+    ReportRead {
+        refusal,
+        report: decode_report(bytes),
+    }
+}
+
+// The record at a place of the output, or nothing where it has no room there. The count of bytes written comes back.
+pub fn write_report(out: &mut [u8], at: usize, r: Report) -> usize
+    ensures { λ n. ⌜ Placed (now (out .entry)) at (encodeReport r) n (now (out .exit)) ⌝ }
+{
+    if room(out.len(), at) < layout::REPORT_LENGTH {
+        return 0;
+    }
+    put_mark(out, at, &layout::REPORT_MARK);
+    put64(out, at, layout::JOINING, r.joining.bits);
+    put64(out, at, layout::LEAVING, r.leaving.bits);
+    layout::REPORT_LENGTH
+}

@@ -1,0 +1,72 @@
+// Views: the reader of a lone one, total, with the two checks on its own mark and length; and the writer.
+use crate::own::check_own;
+use records::View;
+use records::bytes::get_sixteen;
+use records::bytes::get32;
+use records::bytes::get64;
+use records::bytes::put_mark;
+use records::bytes::put_sixteen;
+use records::bytes::put32;
+use records::bytes::put64;
+use records::bytes::room;
+use records::layout;
+use seats::SeatSet;
+ghost use mathlib.Core.Path.{_≡_};
+ghost use lib.ListN.{length};
+ghost use Rattle.records.specs.Layout.{viewLength, encodeView, decodeView};
+ghost use Rattle.records.specs.Write.{Placed};
+ghost use Rattle.record_bytes.specs.views.Read.{readView};
+
+// What the reader answers: the number by checks 4 and 5, and the record, zeros where it is refused.
+pub struct ViewRead {
+    pub refusal: u8,
+    pub view: View,
+}
+
+fn decode_view(bytes: &[u8]) -> View
+    requires { ⌜ length (now bytes) ≡ viewLength ⌝ }
+    ensures { λ r. ⌜ r ≡ decodeView (now (bytes .entry)) ⌝ }
+{
+    View {
+        number: get32(bytes, layout::VIEW_NUMBER),
+        members: SeatSet {
+            bits: get64(bytes, layout::VIEW_MEMBERS),
+        },
+        starts: get_sixteen(bytes, layout::STARTS),
+    }
+}
+
+pub fn read_view(bytes: &[u8]) -> ViewRead
+    ensures { λ r. ⌜ r ≡ readView (now (bytes .entry)) ⌝ }
+{
+    let refusal = check_own(&layout::VIEW_MARK, layout::VIEW_LENGTH, bytes);
+    if refusal != 0 {
+        return ViewRead {
+            refusal,
+            view: View {
+                number: 0,
+                members: SeatSet::EMPTY,
+                starts: [0; 16],
+            },
+        };
+    }
+    ViewRead {
+        refusal,
+        view: decode_view(bytes),
+    }
+}
+
+// The record at a place of the output, or nothing where it has no room there. The count of bytes written comes back.
+pub fn write_view(out: &mut [u8], at: usize, v: View) -> usize
+    ensures { λ n. ⌜ Placed (now (out .entry)) at (encodeView v) n (now (out .exit)) ⌝ }
+{
+    if room(out.len(), at) < layout::VIEW_LENGTH {
+        return 0;
+    }
+    let starts = v.starts;
+    put_mark(out, at, &layout::VIEW_MARK);
+    put32(out, at, layout::VIEW_NUMBER, v.number);
+    put64(out, at, layout::VIEW_MEMBERS, v.members.bits);
+    put_sixteen(out, at, layout::STARTS, starts);
+    layout::VIEW_LENGTH
+}

@@ -1,0 +1,117 @@
+-- Laws of the reading of a run that grows: what more input leaves as it is.
+use mathlib.Core.Path.{_≡_, refl, sym, ap, _∙_}
+use mathlib.Core.Bool.{Bool, true, false}
+use mathlib.Core.List.{List, _++_}
+use Prim.Native.Nat.{ℕ, _≤_, _<_}
+use native.Mathlib.Omega.{arith}
+use lib.ListN.{length, length-append, List·getD-append}
+use lib.Seq.{take-append-le, drop-append-le}
+use lib.Dec.{eqb, ltb}
+use borrow.Author.Tests.{ltb-true, ltb-false, eq-eqb, ne-eqb, lt-ltb, le-ltb}
+use Rattle.records.proofs.CheckLaws.{long-mark}
+use Rattle.records.specs.Layout.{reportMark, proposalMark, valueOf, markOf, formFor, formOf, checkFor, checkOf}
+use Rattle.records.specs.Run.{runCheck, runSize, runFirst, runRest}
+use Rattle.records.proofs.RunLaws.{Front, nothing, other, short, whole, front, size-le}
+
+-- under two bytes are no mark
+form-none : (w : List ℕ) → length w < 2 → formOf w .length ≡ 0
+unfolding formOf markOf formFor
+form-none w h = rw (lt-ltb (length w) 2 h)
+
+form-long : (w : List ℕ) → 0 < formOf w .length → 2 ≤ length w
+form-long w h = go (ltb (length w) 2) refl
+  where
+    go : (t : Bool) → ltb (length w) 2 ≡ t → 2 ≤ length w
+    go true e = absurd (let z = form-none w (ltb-true (length w) 2 e) in omega arith)
+    go false e = ltb-false (length w) 2 e
+
+-- no mark calls for more
+pub form-most : (w : List ℕ) → formOf w .length ≤ 84
+unfolding formOf formFor
+form-most w = go (eqb (markOf w) (valueOf reportMark)) (eqb (markOf w) (valueOf proposalMark)) refl refl
+  where
+    go : (s t : Bool) → eqb (markOf w) (valueOf reportMark) ≡ s → eqb (markOf w) (valueOf proposalMark) ≡ t → formOf w .length ≤ 84
+    go true t d e = rw d (omega arith)
+    go false true d e = rw (d, e) (omega arith)
+    go false false d e = rw (d, e) (omega arith)
+
+module _ (w f : List ℕ) where
+  form-append : 2 ≤ length w → formOf (w ++ f) ≡ formOf w
+  unfolding formOf
+  form-append h = ap formFor
+      (long-mark (w ++ f) (simp length-append (omega arith))
+      ∙ rw (List·getD-append w f 0 0 (omega arith), List·getD-append w f 0 1 (omega arith)) (sym (long-mark w h)))
+
+  whole-ends : 0 < formOf (w ++ f) .length → formOf (w ++ f) .length ≤ length w → runCheck (w ++ f) ≡ 0
+  unfolding runCheck
+  whole-ends h l =
+      rw (
+        ne-eqb (length (w ++ f)) 0 (λ e. let g = length-append w f in omega arith),
+        ne-eqb (formOf (w ++ f) .length) 0 (λ e. omega arith),
+        le-ltb (length (w ++ f)) (formOf (w ++ f) .length) (simp length-append (omega arith)),
+      )
+
+  -- a whole record in front stays
+  pub whole-stays : 0 < length w → runCheck w ≡ 0 → (runCheck (w ++ f) ≡ 0) × (runFirst (w ++ f) ≡ runFirst w) × (runRest (w ++ f) ≡ runRest w ++ f)
+  unfolding runFirst runRest
+  whole-stays h z = go (front w)
+    where
+      go : Front w → (runCheck (w ++ f) ≡ 0) × (runFirst (w ++ f) ≡ runFirst w) × (runRest (w ++ f) ≡ runRest w ++ f)
+      go (nothing l e) = absurd (omega arith)
+      go (other l n e) = absurd (omega arith)
+      go (short l n e) = absurd (omega arith)
+      go (whole p l e s) =
+          let a = form-append (form-long w p) in
+          let d : runCheck (w ++ f) ≡ 0 = whole-ends (rw a p) (rw a l) in
+          let k : runSize (w ++ f) ≡ runSize w = size (front (w ++ f)) d s a in
+          let m = size-le w in
+          (d, rw k (take-append-le (runSize w) w f m), rw k (drop-append-le (runSize w) w f m))
+        where
+          size : Front (w ++ f) → runCheck (w ++ f) ≡ 0 → runSize w ≡ formOf w .length → formOf (w ++ f) ≡ formOf w → runSize (w ++ f) ≡ runSize w
+          size (nothing l e) d s a = absurd (let g = length-append w f in omega arith)
+          size (other l n e) d s a = absurd (omega arith)
+          size (short l n e) d s a = absurd (omega arith)
+          size (whole p l e t) d s a = t ∙ rw a (sym s)
+
+  -- and so does another mark
+  pub other-stays : 2 ≤ length w → runCheck w ≡ 4 → runCheck (w ++ f) ≡ 4
+  unfolding runCheck
+  other-stays h z = go (front w)
+    where
+      go : Front w → runCheck (w ++ f) ≡ 4
+      go (nothing l e) = absurd (omega arith)
+      go (short l n e) = absurd (omega arith)
+      go (whole p l e s) = absurd (omega arith)
+      go (other l n e) =
+          rw (ne-eqb (length (w ++ f)) 0 (λ e. let g = length-append w f in omega arith), form-append h, eq-eqb (formOf w .length) 0 n)
+
+-- a whole record has two bytes at least
+pub whole-long : (w : List ℕ) → 0 < length w → runCheck w ≡ 0 → 2 ≤ length w
+whole-long w h z = go (front w)
+  where
+    go : Front w → 2 ≤ length w
+    go (nothing l e) = absurd (omega arith)
+    go (other l n e) = absurd (omega arith)
+    go (short l n e) = absurd (omega arith)
+    go (whole p l e s) = form-long w p
+
+-- a reading that ends with 4 ends with check 4
+pub other-check : (w : List ℕ) → runCheck w ≡ 4 → checkOf w ≡ 4
+unfolding checkOf checkFor
+other-check w z = go (front w)
+  where
+    go : Front w → checkOf w ≡ 4
+    go (nothing l e) = absurd (omega arith)
+    go (short l n e) = absurd (omega arith)
+    go (whole p l e s) = absurd (omega arith)
+    go (other l n e) = rw (eq-eqb (formOf w .length) 0 n)
+
+-- it ends with 0, 4 or 5; with 5 under 84 bytes are there
+pub short-ends : (w : List ℕ) → runCheck w ≡ 5 → length w < 84
+short-ends w z = go (front w)
+  where
+    go : Front w → length w < 84
+    go (nothing l e) = omega arith
+    go (short l n e) = let m = form-most w in omega arith
+    go (whole p l e s) = absurd (omega arith)
+    go (other l n e) = absurd (omega arith)

@@ -1,0 +1,139 @@
+-- Laws of the reading of a run.
+use mathlib.Core.Path.{_≡_, refl, sym, ap, _∙_}
+use mathlib.Core.Bool.{Bool, true, false}
+use mathlib.Core.List.{List, [], _∷_, _++_, append-assoc, flatten}
+use mathlib.Core.Logic.{_⊎_, inl, inr, ⊎-elim}
+use Prim.Native.Nat.{ℕ, zero, suc, _≤_, _<_}
+use native.Mathlib.Omega.{arith}
+use native.Mathlib.Nat.{pos-of-ne-zero}
+use lib.ListN.{length, take, take-append-drop, length-drop}
+use lib.Seq.{getD-take, length-take-le}
+use lib.Dec.{eqb, ltb}
+use borrow.Author.Tests.{eqb-true, eqb-false, ltb-true, ltb-false, ne-eqb}
+use Rattle.laws.specs.Lists.{none, more}
+use Rattle.records.proofs.CheckLaws.{long-mark, check-passes}
+use Rattle.records.specs.Layout.{reportMark, proposalMark, valueOf, markOf, formFor, formOf, checkFor, checkOf}
+use Rattle.records.specs.Run.{runCheck, runSize, runFirst, runRest, readingIn, readingOf, Ends, WholeReading}
+
+-- what stands in front of a run: nothing, another mark, too few bytes, or a whole record
+pub data Front (w : List ℕ) : Type 0 where
+  nothing : length w ≡ 0 → runCheck w ≡ 0 → Front w
+  other : 0 < length w → formOf w .length ≡ 0 → runCheck w ≡ 4 → Front w
+  short : 0 < length w → length w < formOf w .length → runCheck w ≡ 5 → Front w
+  whole : 0 < formOf w .length → formOf w .length ≤ length w → runCheck w ≡ 0 → runSize w ≡ formOf w .length → Front w
+
+pub front : (w : List ℕ) → Front w
+unfolding runSize runCheck
+front w = go (eqb (length w) 0) (eqb n 0) (ltb (length w) n) refl refl refl
+  where
+    n : ℕ
+    n = formOf w .length
+
+    go : (r s t : Bool) → eqb (length w) 0 ≡ r → eqb n 0 ≡ s → ltb (length w) n ≡ t → Front w
+    go true s t d e f = nothing (eqb-true (length w) 0 d) (rw d)
+    go false true t d e f = other (pos-of-ne-zero (eqb-false (length w) 0 d)) (eqb-true n 0 e) (rw (d, e))
+    go false false true d e f = short (pos-of-ne-zero (eqb-false (length w) 0 d)) (ltb-true (length w) n f) (rw (d, e, f))
+    go false false false d e f = whole (pos-of-ne-zero (eqb-false n 0 e)) (ltb-false (length w) n f) (rw (d, e, f)) (rw (d, e, f))
+
+empty : (b : List ℕ) → length b ≡ 0 → b ≡ []
+empty [] h = refl
+empty (x ∷ b) h = absurd (omega arith)
+
+nothing-size : runSize [] ≡ 0
+unfolding runSize runCheck formOf markOf formFor
+nothing-size = refl
+
+-- where nothing stands in front, or what is refused, there is no record
+empty-size : (b : List ℕ) → length b ≡ 0 → runSize b ≡ 0
+empty-size b h = rw (empty b h) nothing-size
+
+refused-size : (b : List ℕ) → 0 < runCheck b → runSize b ≡ 0
+unfolding runSize
+refused-size b h = rw (ne-eqb (runCheck b) 0 (λ e. omega arith))
+
+pub size-le : (b : List ℕ) → runSize b ≤ length b
+size-le b = go (front b)
+  where
+    go : Front b → runSize b ≤ length b
+    go (nothing l e) = omega (arith, empty-size b l)
+    go (other l n e) = omega (arith, refused-size b (omega arith))
+    go (short l n e) = omega (arith, refused-size b (omega arith))
+    go (whole p l e s) = omega arith
+
+-- the record in front and what follows it are the input
+pub first-rest : (b : List ℕ) → runFirst b ++ runRest b ≡ b
+unfolding runFirst runRest
+first-rest b = take-append-drop (runSize b) b
+
+pub rest-shorter : (b : List ℕ) → 0 < runSize b → length (runRest b) < length b
+unfolding runRest
+rest-shorter b h = let l = size-le b in omega (arith, length-drop (runSize b) b)
+
+-- a mark calls for no less than itself
+form-least : (b : List ℕ) → 0 < formOf b .length → 2 ≤ formOf b .length
+unfolding formOf formFor
+form-least b h = go (eqb (markOf b) (valueOf reportMark)) (eqb (markOf b) (valueOf proposalMark)) refl refl
+  where
+    go : (s t : Bool) → eqb (markOf b) (valueOf reportMark) ≡ s → eqb (markOf b) (valueOf proposalMark) ≡ t → 2 ≤ formOf b .length
+    go true t d e = rw d (omega arith)
+    go false true d e = rw (d, e) (omega arith)
+    go false false d e = absurd (let z = rw (d, e) at h in omega arith)
+
+-- the front of a run has the run's mark
+mark-take : (n : ℕ) (b : List ℕ) → 2 ≤ n → n ≤ length b → markOf (take n b) ≡ markOf b
+mark-take n b h l =
+    let k = length-take-le n b l in
+    long-mark (take n b) (omega arith)
+    ∙ rw (getD-take n b 0 0 (omega arith), getD-take n b 1 0 (omega arith)) (sym (long-mark b (omega arith)))
+
+-- what is handed back as a record passes checks 4 and 5 by itself
+pub first-passes : (b : List ℕ) → 0 < runSize b → checkOf (runFirst b) ≡ 0
+unfolding runFirst checkOf formOf
+first-passes b h = go (front b)
+  where
+    go : Front b → checkOf (runFirst b) ≡ 0
+    go (nothing l e) = absurd (omega (arith, empty-size b l))
+    go (other l n e) = absurd (omega (arith, refused-size b (omega arith)))
+    go (short l n e) = absurd (omega (arith, refused-size b (omega arith)))
+    go (whole p l e s) =
+        let n = runSize b in
+        let m = mark-take n b (let q = form-least b p in omega arith) (size-le b) in
+        let f : formOf (take n b) .length ≡ n = ap (λ (v : ℕ). formFor v .length) m ∙ sym s in
+        ap (λ (k : ℕ). checkFor k (take n b)) f ∙ check-passes n (take n b) (length-take-le n b (size-le b)) h
+
+end-nothing : runCheck [] ≡ 0
+unfolding runCheck
+end-nothing = refl
+
+pub ends : (b : List ℕ) → runSize b ≡ 0 → Ends b
+ends b h = record { none = h; number = go (front b) }
+  where
+    some : (runCheck b ≡ 4) ⊎ (runCheck b ≡ 5) → b ≡ [] → ⊥
+    some e z = let y = ap runCheck z ∙ end-nothing in ⊎-elim (λ q. omega arith) (λ q. omega arith) e
+
+    go : Front b → ((b ≡ []) × (runCheck b ≡ 0)) ⊎ ((b ≡ [] → ⊥) × ((runCheck b ≡ 4) ⊎ (runCheck b ≡ 5)))
+    go (nothing l e) = inl (empty b l, e)
+    go (other l n e) = inr (some (inl e), inl e)
+    go (short l n e) = inr (some (inr e), inr e)
+    go (whole p l e s) = absurd (omega arith)
+
+reads-in : (n : ℕ) (b : List ℕ) → length b ≤ n → WholeReading b (readingIn n b)
+unfolding readingIn flatten
+reads-in zero b h = let l = size-le b in record { input = refl; records = none; ends = ends b (omega arith); number = refl }
+reads-in (suc n) b h = go (eqb (runSize b) 0) refl (λ p. reads-in n (runRest b) (let l = rest-shorter b p in omega arith))
+  where
+    go : (t : Bool) → eqb (runSize b) 0 ≡ t → (0 < runSize b → WholeReading (runRest b) (readingIn n (runRest b))) → WholeReading b (readingIn (suc n) b)
+    go true e ih = rw e (record { input = refl; records = none; ends = ends b (eqb-true (runSize b) 0 e); number = refl })
+    go false e ih =
+        let p = pos-of-ne-zero (eqb-false (runSize b) 0 e) in
+        let r = ih p in
+        rw e (record {
+          input = append-assoc (runFirst b) _ _ ∙ ap (λ (l : List ℕ). runFirst b ++ l) (r .input) ∙ first-rest b;
+          records = more (first-passes b p) (r .records);
+          ends = r .ends;
+          number = r .number;
+        })
+
+pub reads : (b : List ℕ) → WholeReading b (readingOf b)
+unfolding readingOf
+reads b = reads-in (length b) b (omega arith)

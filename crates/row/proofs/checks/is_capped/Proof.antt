@@ -1,0 +1,41 @@
+use mathlib.Core.Path.{sym, ap, _∙_}
+use mathlib.Core.Bool.{Bool, _&&_}
+use lib.Dec.{leb}
+use lib.ListN.{getD}
+use Rattle.row.specs.Row.{startPlace, numberPlace, viewPlace, low}
+use Rattle.row.proofs.Low.{capped-is}
+use borrow.Author.Needs.{needs}
+use Rattle.row.proofs.checks.is_capped.Statement.{statement}
+use Rattle.row.proofs.checks.is_capped.Tie as tie
+
+-- src/lib.rt:48:6
+shared-slice-read-result : tie.Need-shared-slice-read-result
+shared-slice-read-result c = search needs
+
+-- src/lib.rt:48:34
+shared-slice-read-result-2 : tie.Need-shared-slice-read-result-2
+shared-slice-read-result-2 c = search needs
+
+-- src/lib.rt:48:63
+shared-slice-read-result-3 : tie.Need-shared-slice-read-result-3
+shared-slice-read-result-3 c = search needs
+
+-- src/lib.rt:48:90
+stored-digits-requires : tie.Need-stored-digits-requires
+stored-digits-requires c κs = search needs
+
+-- src/lib.rt:44:1
+returns : tie.Need-returns
+returns c e =
+    let ws = c .before .before .before .before .before .args .s .now in
+    capped-is ws (ap (λ (t : Bool). leb (getD ws startPlace 0) low && leb (getD ws numberPlace 0) low && leb (getD ws viewPlace 0) low && t) (sym (c .stored-digits .ensures)) ∙ e)
+
+pub is-capped-spec : {M : Type 1} → statement M
+is-capped-spec =
+    tie.close
+    (tie.spec
+    shared-slice-read-result
+    shared-slice-read-result-2
+    shared-slice-read-result-3
+    stored-digits-requires
+    returns)

@@ -1,0 +1,14 @@
+use borrow.Author.Needs.{needs}
+use Rattle.rules.specs.Refusals.{wrongNumber}
+use Rattle.step.proofs.form.wrong_number.Statement.{statement}
+use Rattle.step.proofs.form.wrong_number.Tie as tie
+
+above-limit-requires : tie.Need-above-limit-requires
+above-limit-requires c κs = search needs
+
+returns : tie.Need-returns
+unfolding wrongNumber
+returns c = rw (c .above-limit .ensures)
+
+pub wrong-number-spec : {M : Type 1} → statement M
+wrong-number-spec = tie.close (tie.spec above-limit-requires returns)

@@ -1,0 +1,55 @@
+use Rattle.step.proofs.FreshRows.{fresh-1-other, fresh-2, fresh-1, fresh-0}
+use borrow.Author.Needs.{needs}
+use Rattle.step.proofs.making.fresh.Statement.{statement}
+use Rattle.step.proofs.making.fresh.Tie as tie
+
+office-requires : tie.Need-office-requires
+office-requires c κs = search needs
+
+returns : tie.Need-returns
+returns c =
+    let a = c .before .before .before .before .args in
+    fresh-1-other (a .office) (a .state .now) (c .before .before .office .result) (c .before .before .office .ensures) (c .before .if1 .taken) (c .if2 .taken)
+
+returns-2 : tie.Need-returns-2
+returns-2 c =
+    let a = c .before .before .before .before .args in
+    fresh-2 (a .office) (a .state .now) (c .before .before .office .result) (c .before .before .office .ensures) (c .before .if1 .taken) (c .if2 .left)
+
+put-fresh-requires : tie.Need-put-fresh-requires
+put-fresh-requires c κs = search needs
+
+same-length : tie.Need-same-length
+same-length c = search needs
+
+returns-3 : tie.Need-returns-3
+returns-3 c =
+    let a = c .before .before .before .before .before .before .before .before .args in
+    let n = c .before .before .before .before .before .before .office in
+    fresh-1 (a .office) (a .state .now) (n .result) (n .ensures) (c .before .before .before .before .before .if1 .left) (c .before .before .before .before .if3 .taken) _ (c .before .before .put-fresh .ensures)
+
+put-fresh-requires-2 : tie.Need-put-fresh-requires-2
+put-fresh-requires-2 c κs = search needs
+
+same-length-2 : tie.Need-same-length-2
+same-length-2 c = search needs
+
+returns-4 : tie.Need-returns-4
+returns-4 c =
+    let a = c .before .before .before .before .before .before .before .before .args in
+    let n = c .before .before .before .before .before .before .office in
+    fresh-0 (a .office) (a .state .now) (n .result) (n .ensures) (c .before .before .before .before .before .if1 .left) (c .before .before .before .before .if3 .left) _ (c .before .before .put-fresh2 .ensures)
+
+pub fresh-spec : {M : Type 1} → statement M
+fresh-spec =
+    tie.close
+    (tie.spec
+    office-requires
+    returns
+    returns-2
+    put-fresh-requires
+    same-length
+    returns-3
+    put-fresh-requires-2
+    same-length-2
+    returns-4)

@@ -1,0 +1,4 @@
+pub mod Checks
+pub mod Fresh
+pub mod Tried
+pub mod Step

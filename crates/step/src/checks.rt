@@ -1,0 +1,64 @@
+// Checks 1 to 3 and 11 to 13, and the order of 6 to 12; inner to the layer of the step. The records answer 4 and 5.
+use crate::form;
+use records::Proposal;
+use records::numbers::LIMIT;
+ghost use mathlib.Core.Path.{_≡_};
+ghost use Prim.Native.Nat.{_<_};
+ghost use Rattle.laws.specs.Checks.{firstOf};
+ghost use Rattle.rules.specs.Refusals.{proposalChecks, madeOf};
+ghost use Rattle.row.specs.Row.{Row, stateOf, lowRow};
+ghost use Rattle.step.specs.Checks.{unready, madeWithin};
+
+// The room that every event has enough of.
+pub const ROOM: usize = 182;
+
+// Check 1.
+pub fn office(office: u8) -> u8
+    ensures { λ r. ⌜ r ≡ madeOf office .refusal ⌝ }
+{
+    if office <= 15 { 0 } else { 1 }
+}
+
+// Checks 2 and 3; a row whose numbers are all low was looked at already.
+pub fn ready(state: &[u32], low: bool, room: usize) -> u8
+    requires { ⌜ low ≡ lowRow (now state) ⌝ }
+    ensures { λ r. ⌜ r ≡ unready (now (state .entry)) room ⌝ }
+{
+    if !low {
+        if !row::checks::is_sound(state) {
+            return 2;
+        }
+    }
+    if room < ROOM {
+        return 3;
+    }
+    0
+}
+
+// Checks 6 to 12: the first that applies, 0 where none does.
+pub fn proposal(state: &[u32], p: Proposal) -> u8
+    requires { ⌜ Row (now state) × (stateOf (now state) .own < 16) ⌝ }
+    ensures { λ r. ⌜ r ≡ firstOf (proposalChecks (stateOf (now (state .entry))) p) ⌝ }
+{
+    let own = row::own(state);
+    let refusal = form::form(own, p);
+    if refusal != 0 {
+        return refusal;
+    }
+    if p.number <= row::accepted(state, p.sender as usize) {
+        return 11;
+    }
+    let used = p.used;
+    if row::number(state) < used[own as usize] {
+        return 12;
+    }
+    0
+}
+
+// Check 13, on the row that an event leaves: of its numbers only these three can be new ones.
+pub fn made_within(row: &[u32]) -> bool
+    requires { ⌜ Row (now row) ⌝ }
+    ensures { λ r. ⌜ r ≡ madeWithin (stateOf (now (row .entry))) ⌝ }
+{
+    (row::start(row) <= LIMIT) & (row::number(row) <= LIMIT) & (row::view_number(row) <= LIMIT)
+}

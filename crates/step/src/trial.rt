@@ -1,0 +1,79 @@
+// Checks 6 to 13 on a record that was read, inner to the layer of the step. For 13, where a number is near L, the event is tried on a copy
+// of the row.
+use crate::checks;
+use crate::checks::ROOM;
+use crate::checks::made_within;
+use records::Proposal;
+use records::Report;
+use row::LOW;
+ghost use mathlib.Core.Path.{_≡_};
+ghost use mathlib.Core.Bool.{true};
+ghost use Rattle.rules.specs.Rules.{reportRule, proposalRule};
+ghost use Rattle.laws.specs.Checks.{firstOf};
+ghost use Rattle.rules.specs.Refusals.{wellFormed, proposalChecks, aReport, aProposal};
+ghost use Rattle.rules.specs.Bounds.{Capped, low as lowNumber};
+ghost use Rattle.row.specs.Row.{stateOf, soundRow};
+ghost use Rattle.step.specs.Tried.{refusalFrom};
+
+// Check 13 on a report: it makes no number above L. A repeat makes none. Where a number is near L, another report is tried on a copy.
+fn report_within(state: &[u32], low: bool, r: Report) -> bool
+    requires { ⌜ (soundRow (now state) ≡ true) × (low ≡ true → Capped lowNumber lowNumber (stateOf (now state))) ⌝ }
+    ensures { λ t. ⌜ t ≡ wellFormed (reportRule (stateOf (now (state .entry))) r .state) ⌝ }
+{
+    if low {
+        return true;
+    }
+    if act::on_report::is_repeat(state, r) {
+        return true;
+    }
+    let mut tried = [0u32; row::WORDS];
+    let mut bytes = [0u8; ROOM];
+    row::changes::copy(state, &mut tried);
+    act::on_report::act_on_change(&mut tried, r, &mut bytes);
+    made_within(&tried)
+}
+
+// Check 13 on a proposal that passes 6 to 12.
+fn proposal_within(state: &[u32], low: bool, p: Proposal) -> bool
+    requires { ⌜ (soundRow (now state) ≡ true) × (low ≡ true → Capped lowNumber lowNumber (stateOf (now state))) × (firstOf (proposalChecks (stateOf (now state)) p) ≡ 0) ⌝ }
+    ensures { λ t. ⌜ t ≡ wellFormed (proposalRule (stateOf (now (state .entry))) p .state) ⌝ }
+{
+    if low & (p.start <= LOW) & (p.number <= LOW) {
+        return true;
+    }
+    let mut tried = [0u32; row::WORDS];
+    let mut bytes = [0u8; ROOM];
+    row::changes::copy(state, &mut tried);
+    act::on_proposal::act_on_proposal(&mut tried, p, &mut bytes);
+    made_within(&tried)
+}
+
+// The refusal of a report whose number by checks 4 and 5 is handed in, 0 where every check passes.
+pub fn report(state: &[u32], low: bool, unread: u8, r: Report) -> u8
+    requires { ⌜ (soundRow (now state) ≡ true) × (low ≡ true → Capped lowNumber lowNumber (stateOf (now state))) ⌝ }
+    ensures { λ n. ⌜ n ≡ refusalFrom unread (stateOf (now (state .entry))) (aReport r) ⌝ }
+{
+    if unread != 0 {
+        return unread;
+    }
+    if report_within(state, low, r) { 0 } else { 13 }
+}
+
+// The same of a proposal.
+pub fn proposal(state: &[u32], low: bool, unread: u8, p: Proposal) -> u8
+    requires { ⌜ (soundRow (now state) ≡ true) × (low ≡ true → Capped lowNumber lowNumber (stateOf (now state))) ⌝ }
+    ensures { λ n. ⌜ n ≡ refusalFrom unread (stateOf (now (state .entry))) (aProposal p) ⌝ }
+{
+    if unread != 0 {
+        return unread;
+    }
+    let refusal = checks::proposal(state, p);
+    if refusal != 0 {
+        return refusal;
+    }
+    if proposal_within(state, low, p) {
+        0
+    } else {
+        13
+    }
+}

@@ -1,9 +1,0 @@
-use mathlib.Core.Path.{refl}
-use Rattle.step_answer.proofs.accept.Statement.{statement}
-use Rattle.step_answer.proofs.accept.Tie as tie
-
-returns : tie.Need-returns
-returns c = refl
-
-pub accept-spec : {M : Type 1} → statement M
-accept-spec = tie.close (tie.spec returns)

@@ -1,0 +1,162 @@
+-- Laws of the lines: more than enough records change nothing, and the text for an input is that of its first record, then of the rest.
+use mathlib.Core.Path.{_≡_, refl, sym, ap, _∙_}
+use mathlib.Core.Bool.{Bool, true, false}
+use mathlib.Core.List.{List, [], _∷_, _++_, append-nil}
+use Prim.Native.Nat.{ℕ, zero, suc, _+_, _≤_, _<_}
+use native.Mathlib.Omega.{arith}
+use native.Mathlib.Nat.{pos-of-ne-zero}
+use lib.ListN.{length, length-append}
+use lib.Dec.{eqb}
+use borrow.Author.Tests.{eqb-true, eqb-false, eq-eqb, ne-eqb}
+use Rattle.laws.specs.Upd.{ifb}
+use Rattle.records.specs.Run.{runCheck, runFirst, runRest}
+use Rattle.records.proofs.RunLaws.{Front, nothing, other, short, whole, front, first-rest, rest-shorter}
+use Rattle.records.proofs.Growing.{whole-stays, other-stays, other-check}
+use Rattle.records.specs.Layout.{checkOf}
+use Rattle.rules.specs.State.{State}
+use Rattle.rules.specs.Refusals.{wellFormed, unreadable, refused, madeOf, stepOf}
+use Rattle.text.specs.Lines.{frontOf, behindOf, answerFor, lineFor, goesOn, linesIn, linesOf, noOffice, textOf}
+
+module _ (b : List ℕ) where
+  -- the record in front of a reading that does not end, and of one that does
+  pub front-first : runCheck b ≡ 0 → frontOf b ≡ runFirst b
+  unfolding frontOf
+  front-first e = rw (eq-eqb (runCheck b) 0 e)
+
+  pub front-all : (runCheck b ≡ 0 → ⊥) → frontOf b ≡ b
+  unfolding frontOf
+  front-all n = rw (ne-eqb (runCheck b) 0 n)
+
+  behind-rest : runCheck b ≡ 0 → behindOf b ≡ runRest b
+  unfolding behindOf
+  behind-rest e = rw (eq-eqb (runCheck b) 0 e)
+
+  behind-none : (runCheck b ≡ 0 → ⊥) → behindOf b ≡ []
+  unfolding behindOf
+  behind-none n = rw (ne-eqb (runCheck b) 0 n)
+
+  -- the record in front and what is behind it are the input
+  pub front-behind : frontOf b ++ behindOf b ≡ b
+  front-behind = go (eqb (runCheck b) 0) refl
+    where
+      go : (t : Bool) → eqb (runCheck b) 0 ≡ t → frontOf b ++ behindOf b ≡ b
+      go true e = let z = eqb-true (runCheck b) 0 e in rw (front-first z, behind-rest z) (first-rest b)
+      go false e = let z = eqb-false (runCheck b) 0 e in rw (front-all z, behind-none z) (append-nil b)
+
+  pub behind-shorter : 0 < length b → length (behindOf b) < length b
+  behind-shorter h = go (front b)
+    where
+      none : (runCheck b ≡ 0 → ⊥) → length (behindOf b) < length b
+      none n = rw (behind-none n) h
+
+      go : Front b → length (behindOf b) < length b
+      go (nothing l e) = absurd (omega arith)
+      go (other l n e) = none (λ z. omega arith)
+      go (short l n e) = none (λ z. omega arith)
+      go (whole p l e s) = rw (behind-rest e) (rest-shorter b (omega arith))
+
+module _ (traced : Bool) where
+  lines-none : (k : ℕ) (s : State) (n : ℕ) (b : List ℕ) → length b ≡ 0 → linesIn k traced s n b ≡ []
+  unfolding linesIn
+  lines-none zero s n b h = refl
+  lines-none (suc k) s n b h = rw (eq-eqb (length b) 0 h)
+
+  -- any number of records that is enough
+  enough : (k j : ℕ) (s : State) (n : ℕ) (b : List ℕ) → length b ≤ k → length b ≤ j → linesIn k traced s n b ≡ linesIn j traced s n b
+  unfolding linesIn
+  enough zero j s n b h l = sym (lines-none j s n b (omega arith))
+  enough (suc k) zero s n b h l = lines-none (suc k) s n b (omega arith)
+  enough (suc k) (suc j) s n b h l = go (eqb (length b) 0) refl (λ p. let m = behind-shorter b p in
+      enough k j (answerFor s b .state) (n + 1) (behindOf b) (omega arith) (omega arith))
+    where
+      go : (t : Bool) → eqb (length b) 0 ≡ t
+          → (0 < length b → linesIn k traced (answerFor s b .state) (n + 1) (behindOf b) ≡ linesIn j traced (answerFor s b .state) (n + 1) (behindOf b))
+          → linesIn (suc k) traced s n b ≡ linesIn (suc j) traced s n b
+      go true e ih = rw e
+      go false e ih = rw (e, ih (pos-of-ne-zero (eqb-false (length b) 0 e)))
+
+  pub lines-nil : (s : State) (n : ℕ) (b : List ℕ) → length b ≡ 0 → linesOf traced s n b ≡ []
+  unfolding linesOf
+  lines-nil s n b h = lines-none (length b) s n b h
+
+  one-more : (k : ℕ) (s : State) (n : ℕ) (b : List ℕ) → 0 < length b
+      → linesIn (suc k) traced s n b
+      ≡ lineFor traced (n + 1) (answerFor s b)
+      ++ ifb (goesOn (answerFor s b .refusal)) (linesIn k traced (answerFor s b .state) (n + 1) (behindOf b)) []
+  unfolding linesIn
+  one-more k s n b h = rw (ne-eqb (length b) 0 (λ z. omega arith))
+
+  -- the first record's line, then the rest where the program goes on
+  pub lines-first : (s : State) (n : ℕ) (b : List ℕ) → 0 < length b
+      → linesOf traced s n b
+      ≡ lineFor traced (n + 1) (answerFor s b)
+      ++ ifb (goesOn (answerFor s b .refusal)) (linesOf traced (answerFor s b .state) (n + 1) (behindOf b)) []
+  unfolding linesOf
+  lines-first s n b h = go (length b) refl
+    where
+      a : State
+      a = answerFor s b .state
+
+      go : (k : ℕ) → length b ≡ k
+          → linesIn (length b) traced s n b ≡ lineFor traced (n + 1) (answerFor s b)
+          ++ ifb (goesOn (answerFor s b .refusal)) (linesIn (length (behindOf b)) traced a (n + 1) (behindOf b)) []
+      go zero e = absurd (omega arith)
+      go (suc k) e =
+          let m = behind-shorter b h in
+          enough (length b) (suc k) s n b (omega arith) (omega arith)
+          ∙ one-more k s n b h ∙ rw (enough k (length (behindOf b)) a (n + 1) (behindOf b) (omega arith) (omega arith))
+
+-- bytes that checks 4 or 5 refuse
+pub step-unread : (s : State) (b : List ℕ) → wellFormed s ≡ true → (checkOf b ≡ 0 → ⊥) → stepOf s b 182 ≡ refused (checkOf b) s
+unfolding stepOf unreadable
+step-unread s b w n = rw (w, ne-eqb (checkOf b) 0 n, ne-eqb (checkOf b) 0 n)
+
+stops : goesOn 4 ≡ false
+unfolding goesOn
+stops = refl
+
+-- What a record is answered is not changed by later bytes f: where it is whole, where no byte comes later, or where its mark is no
+-- record's, of which two bytes tell.
+pub data Decided (w f : List ℕ) : Type 0 where
+  entire : runCheck w ≡ 0 → Decided w f
+  last : f ≡ [] → Decided w f
+  marked : 2 ≤ length w → runCheck w ≡ 4 → Decided w f
+
+module _ (traced : Bool) (s : State) (n : ℕ) (well : wellFormed s ≡ true) (w f : List ℕ) (h : 0 < length w) where
+  abbrev FirstLine : Type 0
+  FirstLine = linesOf traced s n (w ++ f) ≡ lineFor traced (n + 1) (answerFor s w)
+      ++ ifb (goesOn (answerFor s w .refusal)) (linesOf traced (answerFor s w .state) (n + 1) (behindOf w ++ f)) []
+
+  first : linesOf traced s n (w ++ f) ≡ lineFor traced (n + 1) (answerFor s (w ++ f))
+      ++ ifb (goesOn (answerFor s (w ++ f) .refusal)) (linesOf traced (answerFor s (w ++ f) .state) (n + 1) (behindOf (w ++ f))) []
+  first = lines-first traced s n (w ++ f) (let g = length-append w f in omega arith)
+
+  same : frontOf (w ++ f) ≡ frontOf w → behindOf (w ++ f) ≡ behindOf w ++ f → FirstLine
+  same a b = first ∙ rw (a, b)
+
+  pub decided-text : Decided w f → FirstLine
+  decided-text (entire e) =
+      let k = whole-stays w f h e in
+      same (front-first (w ++ f) (k .0) ∙ k .1 ∙ sym (front-first w e)) (behind-rest (w ++ f) (k .0) ∙ k .2 ∙ ap (λ (l : List ℕ). l ++ f) (sym (behind-rest w e)))
+  decided-text (last e) = rw e (lines-first traced s n (w ++ []) (rw (append-nil w) h) ∙ rw (append-nil w, append-nil (behindOf w)))
+  decided-text (marked l e) =
+      let d = other-stays w f l e in
+      let a : answerFor s (w ++ f) ≡ refused 4 s = stopped (w ++ f) d in
+      let b : answerFor s w ≡ refused 4 s = stopped w e in
+      first ∙ rw (a, b, stops)
+    where
+      stopped : (b : List ℕ) → runCheck b ≡ 4 → answerFor s b ≡ refused 4 s
+      stopped b z =
+          let k = other-check b z in
+          rw (front-all b (λ y. omega arith)) (step-unread s b well (λ y. omega arith) ∙ rw k)
+
+-- where no office byte came, the text is that for an office that is none
+pub no-office : (traced : Bool) (f : List ℕ) → textOf traced [] ≡ textOf traced (16 ∷ f)
+unfolding textOf madeOf
+no-office traced f = refl
+
+-- the first byte makes a state, or the one line is the text
+pub text-made : (traced : Bool) (office : ℕ) (f : List ℕ)
+    → textOf traced (office ∷ f) ≡ ifb (eqb (madeOf office .refusal) 0) (linesOf traced (madeOf office .state) 0 f) noOffice
+unfolding textOf
+text-made traced office f = refl

@@ -1,3 +1,0 @@
-pub mod Lowness
-pub mod Made
-pub mod Refusal
