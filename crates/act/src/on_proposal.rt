@@ -1,7 +1,7 @@
 // What an accepted proposal does, inner to the layer of the step: the rule on the row of words of one office in one room, changed in place,
 // and the records written behind one another.
 use crate::round_tests::tests;
-use parts::receive;
+use event_parts::receive;
 use records::Proposal;
 ghost use mathlib.Core.Bool.{true};
 ghost use mathlib.Core.Path.{_≡_};
@@ -11,7 +11,7 @@ ghost use Rattle.rules.specs.Rules.{proposalRule};
 ghost use Rattle.records.specs.Numbers.{limit};
 ghost use Rattle.rules.specs.Refusals.{fullRoom, wellFormed};
 ghost use Rattle.row.specs.Row.{Row, stateOf};
-ghost use Rattle.parts.specs.Did.{Did};
+ghost use Rattle.event_parts.specs.Did.{Did};
 
 pub fn act_on_proposal(s: &mut [u32], p: Proposal, out: &mut [u8]) -> usize
     requires { ⌜ Row (now s) × (wellFormed (stateOf (now s)) ≡ true) × (fullRoom ≤ length (now out)) ⌝ }

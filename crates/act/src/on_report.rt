@@ -1,7 +1,7 @@
 // What an accepted report does, inner to the layer of the step: the rule on the row of words of one office in one room, changed in place,
 // and the records written behind one another.
 use crate::round_tests::tests;
-use parts::opens;
+use event_parts::opens;
 use propose::fast::proposes_fast;
 use records::Report;
 use seats::SeatSet;
@@ -14,9 +14,9 @@ ghost use Rattle.rules.specs.Rules.{netAfter, withNet, repeats, seated, changeR
 ghost use Rattle.records.specs.Numbers.{limit};
 ghost use Rattle.rules.specs.Refusals.{fullRoom, wellFormed};
 ghost use Rattle.row.specs.Row.{Row, stateOf};
-ghost use Rattle.parts.specs.Did.{Did, Fits};
-ghost use Rattle.parts.specs.Bounds.{Bounded};
-ghost use Rattle.parts.specs.Parts.{fastRound};
+ghost use Rattle.event_parts.specs.Did.{Did, Fits};
+ghost use Rattle.event_parts.specs.Bounds.{Bounded};
+ghost use Rattle.event_parts.specs.Parts.{fastRound};
 
 // A report at an office with a seat in the net view.
 fn fast_round(s: &mut [u32], out: &mut [u8]) -> usize

@@ -3,8 +3,8 @@ use agree::agreement::agreement_test;
 use propose::slow_test::slow_test;
 ghost use Rattle.rules.specs.Rules.{tests};
 ghost use Rattle.row.specs.Row.{Row, stateOf};
-ghost use Rattle.parts.specs.Did.{Did, Fits};
-ghost use Rattle.parts.specs.Bounds.{early, Bounded};
+ghost use Rattle.event_parts.specs.Did.{Did, Fits};
+ghost use Rattle.event_parts.specs.Bounds.{early, Bounded};
 
 pub fn tests(s: &mut [u32], out: &mut [u8], at: usize) -> usize
     requires { ⌜ Row (now s) × Bounded early (stateOf (now s)) × Fits tests (now s) (now out) at ⌝ }

@@ -4,7 +4,7 @@ use mathlib.Core.Bool.{true, false}
 use Rattle.records.specs.declared.View.{View}
 use Rattle.rules.specs.State.{State}
 use Rattle.rules.specs.Rules.{view, nothingWritten, agreed, viewOf, concluded, agreementTest}
-use Rattle.parts.proofs.Dids.{one}
+use Rattle.event_parts.proofs.Dids.{one}
 
 pub agreement-not : (s : State) → agreed s ≡ false → nothingWritten s ≡ agreementTest s
 unfolding agreementTest

@@ -6,8 +6,8 @@ use record_bytes::views::write_view;
 ghost use mathlib.Core.Path.{_≡_};
 ghost use Rattle.rules.specs.Rules.{agreed, agreementTest};
 ghost use Rattle.row.specs.Row.{Row, stateOf};
-ghost use Rattle.parts.specs.Did.{Did, Fits};
-ghost use Rattle.parts.specs.Bounds.{reach, Bounded};
+ghost use Rattle.event_parts.specs.Did.{Did, Fits};
+ghost use Rattle.event_parts.specs.Bounds.{reach, Bounded};
 
 fn agreed(s: &[u32]) -> bool
     requires { ⌜ Row (now s) ⌝ }

@@ -1,6 +1,6 @@
 // The view that the stored proposals of an agreement give, on the row of an office; inner to the layer of the step.
-use parts::counted;
-use parts::larger;
+use event_parts::counted;
+use event_parts::larger;
 use records::View;
 use seats::SeatSet;
 use seats::offices::serves;

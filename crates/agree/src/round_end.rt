@@ -1,5 +1,5 @@
 // The end of a round, on the row of an office; inner to the layer of the step: the view is current, and the proposals that it counted are gone.
-use parts::counted;
+use event_parts::counted;
 use records::View;
 use seats::SeatSet;
 use seats::offices::serves;

@@ -17,7 +17,7 @@ use Rattle.record_bytes.proofs.views.Reading.{view-refusal, view-decoded}
 use Rattle.sheet.specs.declared.Along.the-variants as answers
 use Rattle.sheet.specs.Sheet.{recordsOn, lacksRecord, answerFrom, askChecks, firstBad, cameAlong}
 use Rattle.sheet.proofs.Exits.{along-unread, along-asked, along-bad, along-good}
-use Rattle.came_along.specs.declared.pass.Passed.{Passed}
+use Rattle.came_along.specs.declared.sheet_pass.Passed.{Passed}
 use Rattle.came_along.specs.Pass.{foundAfter, passOf}
 use Rattle.came_along.specs.Found.{foundAnswer}
 

@@ -16,7 +16,7 @@ use Rattle.sheet.proofs.Records.{records-split, records-next}
 use Rattle.sheet.proofs.Bad.{bad-append, bad-one}
 use Rattle.came_along.specs.Record.{recordRead}
 use Rattle.came_along.proofs.Reading.{good-read}
-use Rattle.came_along.specs.declared.pass.Found.{Found}
+use Rattle.came_along.specs.declared.sheet_pass.Found.{Found}
 use Rattle.came_along.proofs.Turns.{found-none, found-next}
 use Rattle.came_along.specs.Pass.{foundAfter, nobody, passOf, turnOf}
 

@@ -21,7 +21,7 @@ use Rattle.desk.specs.SeatChecks.{startFor}
 use Rattle.sheet.specs.Sheet.{counts, missing, lacksRecord, namesSame}
 use Rattle.sheet.proofs.First.{counts-other}
 use Rattle.sheet.proofs.Members.{counts-seat, lacks-none, same-none, lacks-next, same-next}
-use Rattle.came_along.specs.declared.pass.Found.{Found}
+use Rattle.came_along.specs.declared.sheet_pass.Found.{Found}
 use Rattle.came_along.specs.Pass.{foundAfter, countedIn, turnOf}
 
 -- a choice of sets

@@ -11,8 +11,8 @@ use Rattle.records.specs.Layout.{decodeSync}
 use Rattle.records.specs.declared.View.{View}
 use Rattle.records.specs.declared.Sync.{Sync}
 use Rattle.sheet.specs.Sheet.{lacksRecord, namesSame, setOf, firstBad}
-use Rattle.came_along.specs.declared.pass.Found.{Found}
-use Rattle.came_along.specs.declared.pass.Passed.{Passed}
+use Rattle.came_along.specs.declared.sheet_pass.Found.{Found}
+use Rattle.came_along.specs.declared.sheet_pass.Passed.{Passed}
 
 unfoldable pub foundAfter : View → ℕ → List Sync → Found
 foundAfter v previous rs = record { missing = setOf (lacksRecord v rs); same = setOf (namesSame v previous rs) }

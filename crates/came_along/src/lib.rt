@@ -1,15 +1,15 @@
 // Who came along from the old view: the answer from a sheet of sync records, a view and one's own previous view number.
 use checks::ask_refusal;
-use pass::Found;
-use pass::pass;
 use record_bytes::views::read_view;
 use seats::SEATS;
+use sheet_pass::Found;
+use sheet_pass::pass;
 ghost use mathlib.Core.Path.{_≡_};
 ghost use Rattle.sheet.specs.Sheet.{cameAlong};
 ghost use Rattle.came_along.specs.Found.{foundAnswer};
 
 mod checks;
-mod pass;
+mod sheet_pass;
 
 pub use sheet::Along;
 

@@ -1,4 +1,4 @@
 pub mod Whole
 pub mod Holding
-pub mod Answering
-pub mod Turning
+pub mod AnsweringLaws
+pub mod TurningLaws

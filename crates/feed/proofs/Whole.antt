@@ -15,7 +15,7 @@ use Rattle.buffers.specs.Place.{windowOf, unwrittenOf}
 use Rattle.feed.specs.Turn.{Turns}
 use Rattle.feed.specs.Whole.{Stand, Run, begun, turned, Ran}
 use Rattle.buffers.specs.declared.input.Place.{Place}
-use Rattle.feed.specs.declared.turn.Turned.{Turned}
+use Rattle.feed.specs.declared.turning.Turned.{Turned}
 
 -- what is due at a place, where f is still to come
 abbrev due : Bool → Bool → Stand → List ℕ → List ℕ

@@ -10,7 +10,7 @@ use Rattle.text.specs.Lines.{lineFor, goesOn}
 use Rattle.feed.specs.Held.{Sound}
 use Rattle.buffers.specs.Place.{unwrittenOf}
 use Rattle.buffers.specs.declared.input.Place.{Place}
-use Rattle.feed.specs.declared.answer.Acted.{Acted}
+use Rattle.feed.specs.declared.answering.Acted.{Acted}
 
 -- the record b is answered by the step, with an output of 182 bytes: its line stands behind what is unwritten
 pub record Answered (traced : Bool) (ws : List ℕ) (p : Place) (b o : List ℕ) (r : Acted) (ws′ o′ : List ℕ) : Type 0 where

@@ -13,8 +13,8 @@ use Rattle.feed.specs.Held.{Sound}
 use Rattle.buffers.specs.Place.{Within, windowOf, unwrittenOf, waitsOf}
 use Rattle.buffers.specs.declared.input.Place.{Place}
 use Rattle.buffers.specs.Room.{roomFor}
-use Rattle.feed.specs.declared.answer.Acted.{Acted}
-use Rattle.feed.specs.declared.turn.Turned.{Turned}
+use Rattle.feed.specs.declared.answering.Acted.{Acted}
+use Rattle.feed.specs.declared.turning.Turned.{Turned}
 
 -- The text that is due stays due. `got` was read, `printed` was put behind what is unwritten. The text for what was read and for all
 -- later bytes f, of which there are none once the input has ended, is what was printed and the text for the rest; where the program

@@ -1,9 +1,9 @@
 // The program: the records of standard input through the step, a line on standard output for each.
-use answer::held::make;
+use answering::held::make;
 use buffers::input::Place;
 use buffers::output::due;
 use buffers::output::flush;
-use turn::turn;
+use turning::turn;
 ghost use mathlib.Core.Path.{_≡_};
 ghost use Prim.Native.Nat.{_-_, _<_, _≤_};
 ghost use lib.ListN.{length};
@@ -12,8 +12,8 @@ ghost use Rattle.text.specs.Lines.{noOffice};
 ghost use Rattle.feed.specs.Held.{Sound};
 ghost use Rattle.feed.specs.Whole.{Ran};
 
-mod answer;
-mod turn;
+mod answering;
+mod turning;
 
 // Where the turns end: `more` where they ran out.
 struct Ended {

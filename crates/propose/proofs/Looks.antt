@@ -14,8 +14,8 @@ use Rattle.rules.specs.State.{Mode, None, Fast, Slow, Slot, State, slow, kindOf
 use Rattle.rules.specs.Rules.{matching, matchingSlow, aboveOwn, usesOwn, calledIn, slowCalled, nextNumber, joinedNumber, slowNumber}
 use Rattle.row.specs.Row.{modeOf}
 use Rattle.row.proofs.Parts.{mode-back}
-use Rattle.parts.specs.Bounds.{reach, Bounded}
-use Rattle.parts.proofs.Bounding.{next-bound}
+use Rattle.event_parts.specs.Bounds.{reach, Bounded}
+use Rattle.event_parts.proofs.Bounding.{next-bound}
 use Rattle.propose.specs.Look.{lookOf, lookedOf, calledBy, numberBy}
 
 pub look-none : (s : State) → lookOf 0 s ≡ record { slow = false; uses = false; above = false; joined = 0; top = 0 }

@@ -8,7 +8,7 @@ use Rattle.seats.specs.Offices.{serves}
 use Rattle.propose.specs.declared.slow_look.Look.{Look}
 use Rattle.rules.specs.State.{Mode, None, Fast, Slow, Slot, State, slow, usedFor, numberIn}
 use Rattle.rules.specs.Rules.{inSlot, matchingSlow, aboveOwn, usesOwn}
-use Rattle.parts.specs.Parts.{countedAt}
+use Rattle.event_parts.specs.Parts.{countedAt}
 
 unfoldable pub lookOf : ℕ → State → Look
 lookOf n s =

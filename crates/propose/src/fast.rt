@@ -1,8 +1,8 @@
 // Steps 4 and 5 of a report: the next number, the fast proposal, whether it has a recipient; inner to the layer of the step.
-use crate::own::keep_own;
-use crate::own::own_proposal;
-use parts::counted;
-use parts::larger;
+use crate::own_proposals::keep_own;
+use crate::own_proposals::own_proposal;
+use event_parts::counted;
+use event_parts::larger;
 use record_bytes::proposals::write_proposal;
 use records::FAST;
 use records::Proposal;
@@ -16,9 +16,9 @@ ghost use Rattle.laws.specs.Fin.{largest};
 ghost use Rattle.seats.specs.Offices.{serves};
 ghost use Rattle.rules.specs.Rules.{seated, nextNumber, hasRecipient, proposesFast};
 ghost use Rattle.row.specs.Row.{Row, stateOf};
-ghost use Rattle.parts.specs.Did.{Did, Fits};
-ghost use Rattle.parts.specs.Bounds.{reach, Bounded};
-ghost use Rattle.parts.specs.Parts.{countedAt};
+ghost use Rattle.event_parts.specs.Did.{Did, Fits};
+ghost use Rattle.event_parts.specs.Bounds.{reach, Bounded};
+ghost use Rattle.event_parts.specs.Parts.{countedAt};
 
 // The number of what is stored for office o of a set; nothing, and any other office, counts as 0.
 fn counted_at(s: &[u32], net: SeatSet, o: usize) -> u32

@@ -1,6 +1,6 @@
 // What the slow test looks at: the stored proposals; inner to the layer of the step.
-use parts::counted;
-use parts::larger;
+use event_parts::counted;
+use event_parts::larger;
 use records::FAST;
 use seats::SeatSet;
 use seats::offices::serves;

@@ -1,18 +1,18 @@
 // The slow test, on the row of an office; inner to the layer of the step.
-use crate::own::keep_own;
-use crate::own::own_proposal;
+use crate::own_proposals::keep_own;
+use crate::own_proposals::own_proposal;
 use crate::slow_look::Look;
 use crate::slow_look::look_at_all;
 use crate::slow_look::slow_called;
 use crate::slow_look::slow_number;
-use parts::opens;
+use event_parts::opens;
 use record_bytes::proposals::write_proposal;
 use records::SLOW;
 ghost use mathlib.Core.Path.{_≡_};
 ghost use Rattle.rules.specs.Rules.{proposesSlow, slowTest};
 ghost use Rattle.row.specs.Row.{Row, stateOf};
-ghost use Rattle.parts.specs.Did.{Did, Fits};
-ghost use Rattle.parts.specs.Bounds.{early, reach, Bounded};
+ghost use Rattle.event_parts.specs.Did.{Did, Fits};
+ghost use Rattle.event_parts.specs.Bounds.{early, reach, Bounded};
 ghost use Rattle.propose.specs.Look.{lookOf};
 
 // The slow proposal, after a look.

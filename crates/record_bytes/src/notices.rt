@@ -1,5 +1,5 @@
 // Start notices: the reader of a lone one, total, with the two checks on its own mark and length; and the writer.
-use crate::own::check_own;
+use crate::own_checks::check_own;
 use records::Notice;
 use records::bytes::get32;
 use records::bytes::get64;

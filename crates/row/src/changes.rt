@@ -1,5 +1,5 @@
 // Changes of what a row holds, in place, but for the stored proposals; inner to the layer of the step.
-use crate::places;
+use crate::layout;
 use crate::stores::put_run;
 use crate::stores::put_set;
 use crate::stores::put_zeros;
@@ -17,52 +17,52 @@ pub fn set_mode(s: &mut [u32], kind: u8)
     requires { ⌜ Row (now s) × (kind ≤ 2) ⌝ }
     ensures { λ _. ⌜ Changed (withMode (modeOf kind)) (now (s .entry)) (now (s .exit)) ⌝ }
 {
-    s[places::MODE] = kind as u32;
+    s[layout::MODE] = kind as u32;
 }
 
 pub fn set_start(s: &mut [u32], n: u32)
     requires { ⌜ Row (now s) ⌝ }
     ensures { λ _. ⌜ Changed (withStart n) (now (s .entry)) (now (s .exit)) ⌝ }
 {
-    s[places::START] = n;
+    s[layout::START] = n;
 }
 
 pub fn set_number(s: &mut [u32], n: u32)
     requires { ⌜ Row (now s) ⌝ }
     ensures { λ _. ⌜ Changed (withNumber n) (now (s .entry)) (now (s .exit)) ⌝ }
 {
-    s[places::NUMBER] = n;
+    s[layout::NUMBER] = n;
 }
 
 pub fn set_accepted(s: &mut [u32], o: usize, n: u32)
     requires { ⌜ Row (now s) × (o < 16) ⌝ }
     ensures { λ _. ⌜ Changed (withAccepted o n) (now (s .entry)) (now (s .exit)) ⌝ }
 {
-    s[places::ACCEPTED + o] = n;
+    s[layout::ACCEPTED + o] = n;
 }
 
 pub fn set_used(s: &mut [u32], o: usize, n: u32)
     requires { ⌜ Row (now s) × (o < 16) ⌝ }
     ensures { λ _. ⌜ Changed (withUsed o n) (now (s .entry)) (now (s .exit)) ⌝ }
 {
-    s[places::USED + o] = n;
+    s[layout::USED + o] = n;
 }
 
 pub fn set_net(s: &mut [u32], x: SeatSet)
     requires { ⌜ Row (now s) ⌝ }
     ensures { λ _. ⌜ Changed (withNetSet x) (now (s .entry)) (now (s .exit)) ⌝ }
 {
-    put_set(s, places::NET, x);
+    put_set(s, layout::NET, x);
 }
 
 pub fn put_view(s: &mut [u32], v: View)
     requires { ⌜ Row (now s) ⌝ }
     ensures { λ _. ⌜ Changed (withView v) (now (s .entry)) (now (s .exit)) ⌝ }
 {
-    put_set(s, places::MEMBERS, v.members);
-    s[places::VIEW] = v.number;
+    put_set(s, layout::MEMBERS, v.members);
+    s[layout::VIEW] = v.number;
     let starts = v.starts;
-    put_run(s, places::STARTS, &starts);
+    put_run(s, layout::STARTS, &starts);
 }
 
 // The fresh state of an office, over any words.
@@ -71,7 +71,7 @@ pub fn put_fresh(s: &mut [u32], office: u8)
     ensures { λ _. ⌜ now (s .exit) ≡ wordsOf (fresh office) ⌝ }
 {
     put_zeros(s);
-    s[places::OWN] = office as u32;
+    s[layout::OWN] = office as u32;
 }
 
 pub fn copy(from: &[u32], to: &mut [u32])

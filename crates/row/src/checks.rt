@@ -1,7 +1,7 @@
 // Check 2 of the state that words hold, and whether all its numbers are low; inner to the layer of the step.
 use crate::LOW;
 use crate::form;
-use crate::places;
+use crate::layout;
 use crate::stored_present;
 use records::numbers::LIMIT;
 ghost use mathlib.Core.Path.{_≡_};
@@ -19,7 +19,7 @@ ghost use Rattle.row.specs.Row.{Row, stateOf, soundRow, lowRow, low, sta
 const LAST_OFFICE: u32 = 15;
 
 // How many numbers stand before those of what is stored.
-const OWN_NUMBERS: usize = places::STORED_NUMBERS - places::START;
+const OWN_NUMBERS: usize = layout::STORED_NUMBERS - layout::START;
 
 // Check 2 with its row: the length, presence and mode words, and the state that they hold.
 pub fn is_sound(s: &[u32]) -> bool
@@ -36,7 +36,7 @@ pub fn is_low(s: &[u32]) -> bool
     ensures { λ r. ⌜ r ≡ lowRow (now (s .entry)) ⌝ }
 {
     if form::is_row(s) {
-        return (s[places::OWN] <= LAST_OFFICE) & (all_numbers(s) <= LOW);
+        return (s[layout::OWN] <= LAST_OFFICE) & (all_numbers(s) <= LOW);
     }
     false
 }
@@ -46,9 +46,9 @@ pub fn is_capped(s: &[u32]) -> bool
     requires { ⌜ Row (now s) ⌝ }
     ensures { λ r. ⌜ (r ≡ true → Capped low low (stateOf (now (s .entry)))) ⌝ }
 {
-    (s[places::START] <= LOW)
-        & (s[places::NUMBER] <= LOW)
-        & (s[places::VIEW] <= LOW)
+    (s[layout::START] <= LOW)
+        & (s[layout::NUMBER] <= LOW)
+        & (s[layout::VIEW] <= LOW)
         & (stored_digits(s) <= LOW)
 }
 
@@ -60,8 +60,8 @@ fn stored_digits(s: &[u32]) -> u32
     let mut all = 0u32;
     let mut o: usize = 0;
     while o < 16 {
-        let at = places::STORED_NUMBERS + places::STORED * o;
-        all = all | s[at] | s[at + places::STORED_NUMBER];
+        let at = layout::STORED_NUMBERS + layout::STORED * o;
+        all = all | s[at] | s[at + layout::STORED_NUMBER];
         o += 1;
     }
     all
@@ -71,7 +71,7 @@ fn is_well_formed(s: &[u32]) -> bool
     requires { ⌜ Row (now s) ⌝ }
     ensures { λ r. ⌜ r ≡ wellFormed (stateOf (now (s .entry))) ⌝ }
 {
-    (s[places::OWN] <= LAST_OFFICE) & are_within(s, places::START, OWN_NUMBERS) & slots_within(s)
+    (s[layout::OWN] <= LAST_OFFICE) & are_within(s, layout::START, OWN_NUMBERS) & slots_within(s)
 }
 
 // The digits of all numbers together: at most LOW, which is all ones, just where each number is.
@@ -81,8 +81,8 @@ fn all_numbers(s: &[u32]) -> u32
 {
     let mut all = 0u32;
     let mut k: usize = 0;
-    while k < places::NUMBERS {
-        all = all | s[places::START + k];
+    while k < layout::NUMBERS {
+        all = all | s[layout::START + k];
         k += 1;
     }
     all
@@ -106,8 +106,8 @@ fn slot_within(s: &[u32], o: usize) -> bool
     requires { ⌜ Row (now s) × (o < 16) ⌝ }
     ensures { λ r. ⌜ r ≡ slotWithin (storedAt (stateOf (now (s .entry))) o) ⌝ }
 {
-    let at = places::STORED_NUMBERS + places::STORED * o;
-    !stored_present(s, o) | are_within(s, at, places::STORED)
+    let at = layout::STORED_NUMBERS + layout::STORED * o;
+    !stored_present(s, o) | are_within(s, at, layout::STORED)
 }
 
 fn slots_within(s: &[u32]) -> bool

@@ -1,6 +1,6 @@
 // Whether words are a row: their length, their presence words and their mode word; inner to the layer of the step.
 use crate::WORDS;
-use crate::places;
+use crate::layout;
 ghost use mathlib.Core.Path.{_≡_};
 ghost use Rattle.row.specs.Row.{isRow};
 
@@ -13,8 +13,8 @@ pub fn is_row(s: &[u32]) -> bool
     let mut ok = true;
     let mut o: usize = 0;
     while o < 16 {
-        ok = (s[places::SLOTS + places::SLOT * o] <= 1) & ok;
+        ok = (s[layout::SLOTS + layout::SLOT * o] <= 1) & ok;
         o += 1;
     }
-    (s[places::MODE] <= 2) & ok
+    (s[layout::MODE] <= 2) & ok
 }

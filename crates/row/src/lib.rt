@@ -2,7 +2,7 @@
 pub mod changes;
 pub mod checks;
 mod form;
-mod places;
+mod layout;
 mod readers;
 pub mod slots;
 mod stores;

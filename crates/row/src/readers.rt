@@ -1,5 +1,5 @@
 // What a row holds.
-use crate::places;
+use crate::layout;
 use seats::SeatSet;
 ghost use mathlib.Core.Path.{_≡_};
 ghost use Prim.Native.Nat.{_+_, _*_, _<_, _≤_};
@@ -11,7 +11,7 @@ pub fn own(s: &[u32]) -> u8
     requires { ⌜ Row (now s) × (stateOf (now s) .own < 16) ⌝ }
     ensures { λ r. ⌜ r ≡ stateOf (now (s .entry)) .own ⌝ }
 {
-    s[places::OWN] as u8
+    s[layout::OWN] as u8
 }
 
 // The mode as the kind of proposal that it waits for, 0 for none.
@@ -19,84 +19,84 @@ pub fn mode(s: &[u32]) -> u8
     requires { ⌜ Row (now s) ⌝ }
     ensures { λ r. ⌜ r ≡ kindOf (stateOf (now (s .entry)) .mode) ⌝ }
 {
-    s[places::MODE] as u8
+    s[layout::MODE] as u8
 }
 
 pub fn net(s: &[u32]) -> SeatSet
     requires { ⌜ Row (now s) ⌝ }
     ensures { λ r. ⌜ r ≡ stateOf (now (s .entry)) .net ⌝ }
 {
-    set_at(s, places::NET)
+    set_at(s, layout::NET)
 }
 
 pub fn start(s: &[u32]) -> u32
     requires { ⌜ Row (now s) ⌝ }
     ensures { λ r. ⌜ r ≡ stateOf (now (s .entry)) .start ⌝ }
 {
-    s[places::START]
+    s[layout::START]
 }
 
 pub fn number(s: &[u32]) -> u32
     requires { ⌜ Row (now s) ⌝ }
     ensures { λ r. ⌜ r ≡ stateOf (now (s .entry)) .number ⌝ }
 {
-    s[places::NUMBER]
+    s[layout::NUMBER]
 }
 
 pub fn view_number(s: &[u32]) -> u32
     requires { ⌜ Row (now s) ⌝ }
     ensures { λ r. ⌜ r ≡ stateOf (now (s .entry)) .view .number ⌝ }
 {
-    s[places::VIEW]
+    s[layout::VIEW]
 }
 
 pub fn accepted(s: &[u32], o: usize) -> u32
     requires { ⌜ Row (now s) × (o < 16) ⌝ }
     ensures { λ r. ⌜ r ≡ acceptedAt (stateOf (now (s .entry))) o ⌝ }
 {
-    s[places::ACCEPTED + o]
+    s[layout::ACCEPTED + o]
 }
 
 pub fn used(s: &[u32], o: usize) -> u32
     requires { ⌜ Row (now s) × (o < 16) ⌝ }
     ensures { λ r. ⌜ r ≡ usedAt (stateOf (now (s .entry))) o ⌝ }
 {
-    s[places::USED + o]
+    s[layout::USED + o]
 }
 
 pub fn stored_present(s: &[u32], o: usize) -> bool
     requires { ⌜ Row (now s) × (o < 16) ⌝ }
     ensures { λ r. ⌜ r ≡ storedAt (stateOf (now (s .entry))) o .present ⌝ }
 {
-    s[places::SLOTS + places::SLOT * o] != 0
+    s[layout::SLOTS + layout::SLOT * o] != 0
 }
 
 pub fn stored_kind(s: &[u32], o: usize) -> u32
     requires { ⌜ Row (now s) × (o < 16) ⌝ }
     ensures { λ r. ⌜ r ≡ storedAt (stateOf (now (s .entry))) o .proposal .kind ⌝ }
 {
-    s[places::SLOTS + places::SLOT * o + places::KIND]
+    s[layout::SLOTS + layout::SLOT * o + layout::KIND]
 }
 
 pub fn stored_members(s: &[u32], o: usize) -> SeatSet
     requires { ⌜ Row (now s) × (o < 16) ⌝ }
     ensures { λ r. ⌜ r ≡ storedAt (stateOf (now (s .entry))) o .proposal .members ⌝ }
 {
-    set_at(s, places::SLOTS + places::SLOT * o + places::SLOT_MEMBERS)
+    set_at(s, layout::SLOTS + layout::SLOT * o + layout::SLOT_MEMBERS)
 }
 
 pub fn stored_start(s: &[u32], o: usize) -> u32
     requires { ⌜ Row (now s) × (o < 16) ⌝ }
     ensures { λ r. ⌜ r ≡ storedAt (stateOf (now (s .entry))) o .proposal .start ⌝ }
 {
-    s[places::STORED_NUMBERS + places::STORED * o]
+    s[layout::STORED_NUMBERS + layout::STORED * o]
 }
 
 pub fn stored_number(s: &[u32], o: usize) -> u32
     requires { ⌜ Row (now s) × (o < 16) ⌝ }
     ensures { λ r. ⌜ r ≡ storedAt (stateOf (now (s .entry))) o .proposal .number ⌝ }
 {
-    s[places::STORED_NUMBERS + places::STORED * o + places::STORED_NUMBER]
+    s[layout::STORED_NUMBERS + layout::STORED * o + layout::STORED_NUMBER]
 }
 
 // The used number for office k of what is stored for office o.
@@ -104,7 +104,7 @@ pub fn stored_used(s: &[u32], o: usize, k: usize) -> u32
     requires { ⌜ Row (now s) × (o < 16) × (k < 16) ⌝ }
     ensures { λ r. ⌜ r ≡ usedFor (storedAt (stateOf (now (s .entry))) o .proposal) k ⌝ }
 {
-    s[places::STORED_NUMBERS + places::STORED * o + places::STORED_USED + k]
+    s[layout::STORED_NUMBERS + layout::STORED * o + layout::STORED_USED + k]
 }
 
 fn set_at(s: &[u32], at: usize) -> SeatSet

@@ -1,5 +1,5 @@
 // Changes of the stored proposals of a row, in place; inner to the layer of the step.
-use crate::places;
+use crate::layout;
 use crate::stores::put_numbers;
 use crate::stores::put_run;
 use records::Proposal;
@@ -52,10 +52,10 @@ fn put_slot(s: &mut [u32], o: usize, present: u32, p: Proposal)
         (members.bits / 4294967296) as u32,
     ];
     let used = p.used;
-    put_run(s, places::SLOTS + places::SLOT * o, &head);
+    put_run(s, layout::SLOTS + layout::SLOT * o, &head);
     put_numbers(
         s,
-        places::STORED_NUMBERS + places::STORED * o,
+        layout::STORED_NUMBERS + layout::STORED * o,
         p.start,
         p.number,
         used,

@@ -20,7 +20,7 @@ use Rattle.rule_laws.proofs.Exits.{report-read, proposal-read, no-bytes}
 use Rattle.row.specs.Row.{stateOf, isRow, word}
 use Rattle.row.proofs.Low.{is-row, sound-row, sound-well}
 use Rattle.row.proofs.Words.{row-words}
-use Rattle.parts.specs.Did.{Did}
+use Rattle.event_parts.specs.Did.{Did}
 use Rattle.step.specs.Tried.{refusalFrom}
 use Rattle.step.proofs.Refusal.{step-refusal}
 use Rattle.step.specs.declared.answers.Answer.{Answer}

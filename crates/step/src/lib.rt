@@ -1,15 +1,15 @@
 // The step: what comes of any bytes on any row of words, in place.
 use answers::refuse;
-use on_record::on_record;
+use dispatch::on_record;
 ghost use lib.ListN.{length};
 ghost use Rattle.step.specs.Step.{Stepped, stepRow};
 
 pub mod answers;
 mod checks;
+pub mod dispatch;
 mod form;
 mod making;
-pub mod on_record;
-mod trial;
+mod refusals;
 
 pub use answers::Answer;
 pub use making::fresh;

@@ -6,7 +6,7 @@ use Rattle.seats.specs.declared.SeatSet.{SeatSet}
 use Rattle.records.specs.declared.Proposal.{Proposal}
 use Rattle.rules.specs.State.{State}
 use Rattle.rules.specs.Rules.{nothingWritten, tests, proposalRule}
-use Rattle.parts.specs.Parts.{receiving}
+use Rattle.event_parts.specs.Parts.{receiving}
 
 -- with the net view or with other members
 module _ (s : State) (p : Proposal) (net : SeatSet) (e : net ≡ s .net) where

@@ -11,7 +11,7 @@ use Rattle.rules.specs.State.{State}
 use Rattle.rules.specs.Rules.{nothingWritten, netAfter, withNet, repeats, seated, changeRule}
 use Rattle.rule_laws.proofs.Recipients.{seated-is}
 use Rattle.rules.specs.State.{withNetSet}
-use Rattle.parts.specs.Parts.{fastRound}
+use Rattle.event_parts.specs.Parts.{fastRound}
 
 -- the net view with joining, then without leaving
 pub net-made : (net : ℕ) (r : Report) (with-joining after : ℕ) → with-joining ≡ unionOf net (r .joining .bits)

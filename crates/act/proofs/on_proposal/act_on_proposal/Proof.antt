@@ -7,10 +7,10 @@ use Rattle.rules.specs.Rules.{tests, proposalRule}
 use Rattle.records.specs.Numbers.{limit}
 use Rattle.rules.specs.Refusals.{aProposal}
 use Rattle.row.specs.Row.{stateOf}
-use Rattle.parts.specs.Bounds.{early}
-use Rattle.parts.specs.Parts.{receiving}
-use Rattle.parts.proofs.Bounding.{well-bounded, received-bounded, bounded-le}
-use Rattle.parts.proofs.Dids.{did-as, did-after, did-quiet, event-fits}
+use Rattle.event_parts.specs.Bounds.{early}
+use Rattle.event_parts.specs.Parts.{receiving}
+use Rattle.event_parts.proofs.Bounding.{well-bounded, received-bounded, bounded-le}
+use Rattle.event_parts.proofs.Dids.{did-as, did-after, did-quiet, event-fits}
 use Rattle.act.proofs.on_proposal.Outcomes.{proposal-other, proposal-same}
 use Rattle.act.proofs.on_proposal.act_on_proposal.Statement.{statement}
 use Rattle.act.proofs.on_proposal.act_on_proposal.Tie as tie

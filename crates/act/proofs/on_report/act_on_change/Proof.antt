@@ -13,9 +13,9 @@ use Rattle.rule_laws.proofs.Sizes.{change-size}
 use Rattle.records.specs.declared.Report.{Report}
 use Rattle.row.specs.Row.{stateOf}
 use Rattle.rules.specs.State.{withNetSet}
-use Rattle.parts.specs.Parts.{fastRound}
-use Rattle.parts.proofs.Bounding.{well-bounded, net-bounded}
-use Rattle.parts.proofs.Dids.{did-as, did-after, did-quiet, part-fits}
+use Rattle.event_parts.specs.Parts.{fastRound}
+use Rattle.event_parts.proofs.Bounding.{well-bounded, net-bounded}
+use Rattle.event_parts.proofs.Dids.{did-as, did-after, did-quiet, part-fits}
 use Rattle.act.proofs.on_report.Outcomes.{net-seated, change-left, change-seated}
 use Rattle.act.proofs.on_report.act_on_change.Statement.{statement}
 use Rattle.act.proofs.on_report.act_on_change.Tie as tie

@@ -3,7 +3,7 @@ use mathlib.Core.Path.{sym, _∙_}
 use Rattle.rules.specs.Rules.{reportRule}
 use Rattle.rule_laws.proofs.Repeats.{repeat-rule, change-rule}
 use Rattle.row.specs.Row.{stateOf}
-use Rattle.parts.proofs.Dids.{did-as, did-none}
+use Rattle.event_parts.proofs.Dids.{did-as, did-none}
 use Rattle.act.proofs.on_report.act_on_report.Statement.{statement}
 use Rattle.act.proofs.on_report.act_on_report.Tie as tie
 

@@ -8,10 +8,10 @@ use Rattle.rules.specs.Rules.{Outcome, andThen, seated, opens, proposesFast, te
 use Rattle.records.specs.Numbers.{limit}
 use Rattle.rule_laws.proofs.Recipients.{opens-seated}
 use Rattle.row.specs.Row.{stateOf}
-use Rattle.parts.specs.Bounds.{early, reach, Bounded}
-use Rattle.parts.specs.Did.{Fits}
-use Rattle.parts.proofs.Bounding.{bounded-le, opens-bounded, fast-bounded}
-use Rattle.parts.proofs.Dids.{did-then, fits-first, fits-second}
+use Rattle.event_parts.specs.Bounds.{early, reach, Bounded}
+use Rattle.event_parts.specs.Did.{Fits}
+use Rattle.event_parts.proofs.Bounding.{bounded-le, opens-bounded, fast-bounded}
+use Rattle.event_parts.proofs.Dids.{did-then, fits-first, fits-second}
 use Rattle.act.proofs.on_report.fast_round.Statement.{statement}
 use Rattle.act.proofs.on_report.fast_round.Tie as tie
 

@@ -2,10 +2,10 @@ use native.Mathlib.Omega.{arith}
 use borrow.Author.Needs.{needs}
 use Prim.Native.Nat.{_+_}
 use Rattle.rules.specs.Rules.{andThen, slowTest, agreementTest, tests}
-use Rattle.parts.specs.Bounds.{early, reach}
-use Rattle.parts.specs.Did.{Fits}
-use Rattle.parts.proofs.Bounding.{bounded-le, slowTest-bounded}
-use Rattle.parts.proofs.Dids.{did-as, did-then, fits-as, fits-first, fits-second}
+use Rattle.event_parts.specs.Bounds.{early, reach}
+use Rattle.event_parts.specs.Did.{Fits}
+use Rattle.event_parts.proofs.Bounding.{bounded-le, slowTest-bounded}
+use Rattle.event_parts.proofs.Dids.{did-as, did-then, fits-as, fits-first, fits-second}
 use Rattle.act.proofs.round_tests.Outcomes.{tests-is}
 use Rattle.act.proofs.round_tests.tests.Statement.{statement}
 use Rattle.act.proofs.round_tests.tests.Tie as tie

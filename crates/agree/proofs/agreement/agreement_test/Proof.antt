@@ -4,10 +4,10 @@ use mathlib.Core.Path.{sym, _∙_}
 use Prim.Native.Nat.{_+_}
 use borrow.Author.Tests.{not-true, not-false}
 use Rattle.rules.specs.Rules.{view, agreementTest}
-use Rattle.parts.specs.Bounds.{reach}
-use Rattle.parts.specs.Did.{Did}
-use Rattle.parts.proofs.Bounding.{start-bound}
-use Rattle.parts.proofs.Dids.{did-as, did-none, did-wrote, did-end}
+use Rattle.event_parts.specs.Bounds.{reach}
+use Rattle.event_parts.specs.Did.{Did}
+use Rattle.event_parts.proofs.Bounding.{start-bound}
+use Rattle.event_parts.proofs.Dids.{did-as, did-none, did-wrote, did-end}
 use Rattle.agree.proofs.Agreeing.{agreement-not, agreement-is}
 use Rattle.agree.proofs.agreement.agreement_test.Statement.{statement}
 use Rattle.agree.proofs.agreement.agreement_test.Tie as tie

@@ -1,6 +1,6 @@
 use borrow.Author.Needs.{needs}
 use Rattle.row.proofs.StoreLaws.{then}
-use Rattle.parts.proofs.Dids.{changed-as}
+use Rattle.event_parts.proofs.Dids.{changed-as}
 use Rattle.agree.proofs.Emptying.{concluded-by}
 use Rattle.agree.proofs.round_end.conclude.Statement.{statement}
 use Rattle.agree.proofs.round_end.conclude.Tie as tie

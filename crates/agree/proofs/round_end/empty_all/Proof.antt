@@ -10,7 +10,7 @@ use Rattle.row.specs.Changes.{Changed}
 use Rattle.agree.specs.Emptied.{emptied}
 use Rattle.agree.proofs.Emptying.{emptied-none, emptied-one, emptied-skip, stored-length, used-length}
 use Rattle.row.proofs.StoreLaws.{then}
-use Rattle.parts.proofs.Dids.{changed-as}
+use Rattle.event_parts.proofs.Dids.{changed-as}
 use Rattle.agree.proofs.round_end.empty_all.Statement.{statement}
 use Rattle.agree.proofs.round_end.empty_all.Tie as tie
 

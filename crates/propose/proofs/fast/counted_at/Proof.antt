@@ -2,7 +2,7 @@ use borrow.Author.Needs.{needs}
 use mathlib.Core.Path.{sym, _∙_}
 use Rattle.row.specs.Row.{stateOf}
 use borrow.Author.Tests.{not-true, not-false}
-use Rattle.parts.proofs.Made.{counted-empty, counted-there}
+use Rattle.event_parts.proofs.Made.{counted-empty, counted-there}
 use Rattle.propose.proofs.fast.counted_at.Statement.{statement}
 use Rattle.propose.proofs.fast.counted_at.Tie as tie
 

@@ -4,7 +4,7 @@ use mathlib.Core.Path.{_≡_, refl, _∙_}
 use Prim.Native.Nat.{_≤_, _-_}
 use Rattle.laws.specs.Fin.{largest}
 use Rattle.row.specs.Row.{stateOf}
-use Rattle.parts.specs.Parts.{countedAt}
+use Rattle.event_parts.specs.Parts.{countedAt}
 use Rattle.laws.proofs.Loops.{largest-one}
 use Rattle.propose.proofs.fast.largest_stored.Statement.{statement}
 use Rattle.propose.proofs.fast.largest_stored.Tie as tie

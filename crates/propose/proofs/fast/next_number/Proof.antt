@@ -1,9 +1,9 @@
 use native.Mathlib.Omega.{arith}
 use borrow.Author.Needs.{needs}
 use Rattle.row.specs.Row.{stateOf}
-use Rattle.parts.specs.Bounds.{reach}
-use Rattle.parts.proofs.Made.{next-is}
-use Rattle.parts.proofs.Bounding.{next-bound}
+use Rattle.event_parts.specs.Bounds.{reach}
+use Rattle.event_parts.proofs.Made.{next-is}
+use Rattle.event_parts.proofs.Bounding.{next-bound}
 use Rattle.propose.proofs.fast.next_number.Statement.{statement}
 use Rattle.propose.proofs.fast.next_number.Tie as tie
 

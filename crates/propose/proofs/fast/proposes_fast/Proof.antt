@@ -7,9 +7,9 @@ use Rattle.row.specs.Row.{stateOf}
 use Rattle.rules.specs.State.{Fast}
 use Rattle.rules.specs.Rules.{proposal, nextNumber, ownProposal, proposesFast}
 use Rattle.rule_laws.proofs.Recipients.{own-seated}
-use Rattle.parts.specs.Did.{Did}
-use Rattle.parts.proofs.Dids.{did-as, did-quiet, did-wrote, did-end}
-use Rattle.parts.proofs.Made.{own-same, own-sender, fast-alone, fast-written}
+use Rattle.event_parts.specs.Did.{Did}
+use Rattle.event_parts.proofs.Dids.{did-as, did-quiet, did-wrote, did-end}
+use Rattle.event_parts.proofs.Made.{own-same, own-sender, fast-alone, fast-written}
 use Rattle.propose.proofs.fast.proposes_fast.Statement.{statement}
 use Rattle.propose.proofs.fast.proposes_fast.Tie as tie
 

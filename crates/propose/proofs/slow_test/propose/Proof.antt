@@ -5,9 +5,9 @@ use Prim.Native.Nat.{ℕ, _+_}
 use Rattle.row.specs.Row.{stateOf}
 use Rattle.rules.specs.State.{Slow}
 use Rattle.rules.specs.Rules.{proposal, slowNumber, ownProposal, proposesSlow}
-use Rattle.parts.specs.Did.{Did}
-use Rattle.parts.proofs.Dids.{did-wrote, did-end}
-use Rattle.parts.proofs.Made.{own-same, slow-written}
+use Rattle.event_parts.specs.Did.{Did}
+use Rattle.event_parts.proofs.Dids.{did-wrote, did-end}
+use Rattle.event_parts.proofs.Made.{own-same, slow-written}
 use Rattle.propose.proofs.Looks.{number-found, top-fits}
 use Rattle.propose.proofs.slow_test.propose.Statement.{statement}
 use Rattle.propose.proofs.slow_test.propose.Tie as tie

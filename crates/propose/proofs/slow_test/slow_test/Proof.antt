@@ -5,10 +5,10 @@ use Prim.Native.Nat.{_+_}
 use Rattle.row.specs.Row.{stateOf}
 use Rattle.rules.specs.State.{None, kindOf}
 use Rattle.rules.specs.Rules.{andThen, opens, slowCalled, proposesSlow, slowTest}
-use Rattle.parts.specs.Bounds.{early, reach}
-use Rattle.parts.specs.Did.{Fits}
-use Rattle.parts.proofs.Bounding.{bounded-le, opens-bounded}
-use Rattle.parts.proofs.Dids.{did-as, did-then, did-none, fits-as, fits-first, fits-second}
+use Rattle.event_parts.specs.Bounds.{early, reach}
+use Rattle.event_parts.specs.Did.{Fits}
+use Rattle.event_parts.proofs.Bounding.{bounded-le, opens-bounded}
+use Rattle.event_parts.proofs.Dids.{did-as, did-then, did-none, fits-as, fits-first, fits-second}
 use Rattle.rule_laws.proofs.Modes.{kind-none}
 use Rattle.propose.proofs.Looks.{called-is}
 use Rattle.propose.proofs.SlowCases.{slow-first, slow-made, slow-quiet}

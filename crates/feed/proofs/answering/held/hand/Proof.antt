@@ -1,0 +1,30 @@
+use Rattle.row.proofs.Low.{is-row, sound-words}
+use Rattle.step.proofs.Holds.{step-holds}
+use Rattle.feed.proofs.Holding.{handed}
+use mathlib.Core.Path.{_∙_}
+use borrow.Author.Needs.{needs}
+use Rattle.feed.proofs.answering.held.hand.Statement.{statement}
+use Rattle.feed.proofs.answering.held.hand.Tie as tie
+
+is-capped-requires : tie.Need-is-capped-requires
+is-capped-requires c κs = search needs
+
+on-record-requires : tie.Need-on-record-requires
+on-record-requires c κs =
+    let a = c .before .before .before .before .before .before .before in
+    record { sound = sound-words (a .args .state .now) (is-row _ (a .pre .0 .row)) ∙ a .pre .0 .well; is-low = c .before .before .is-capped .ensures; fits = a .pre .1 }
+
+same-length : tie.Need-same-length
+same-length c = search needs
+
+same-length-2 : tie.Need-same-length-2
+same-length-2 c = search needs
+
+returns : tie.Need-returns
+returns c =
+    let s = c .before .before .before .before .before .before .before .before .before .before .before .before in
+    handed (s .args .state .now) (s .args .«record» .now) (s .pre .0) (c .before .before .before .before .on-record .ensures)
+    (step-holds _ _ _ (s .pre .0 .row))
+
+pub hand-spec : {M : Type 1} → statement M
+hand-spec = tie.close (tie.spec is-capped-requires on-record-requires same-length same-length-2 returns)
