@@ -4,23 +4,13 @@ use mathlib.Core.List.{List, [], _∷_, List·Memᴰ·head, List·Memᴰ·tail}
 use Prim.Native.Nat.{ℕ}
 use native.Mathlib.Omega.{arith}
 use Rattle.laws.specs.Lists.{runs}
-use Rattle.laws.specs.Upd.{upd}
-use Rattle.laws.specs.Fin.{allb, anyb, largest}
 use Rattle.laws.specs.Tab.{tab}
-use Rattle.laws.specs.Big.{bytesAll}
-use Rattle.laws.specs.Bit.{bit}
-use Rattle.seats.specs.Seats.{has, unionOf, withoutOf}
-use Rattle.seats.specs.Offices.{serves}
-use Rattle.records.specs.Layout.{encodeReport, decodeReport, encodeProposal, decodeProposal, markOf, formFor, formOf, checkFor, checkOf}
 use Rattle.records.specs.declared.Proposal.{Proposal}
 use Rattle.records.specs.declared.View.{View}
 use Rattle.rules.specs.State.{fast, zeros}
-use Rattle.rules.specs.Rules.{andThen, fresh, netAfter, withNet, repeats, seated, opened, noticeOf, opens, nextNumber}
-use Rattle.rules.specs.Rules.{ownProposal, proposed, receives, proposesFast, received, matching, matchingSlow, aboveOwn, usesOwn, slowCalled}
-use Rattle.rules.specs.Rules.{joinedNumber, slowNumber, proposesSlow, slowTest, agreesKind, isNone, agreed, startOf, viewOf, concluded}
-use Rattle.rules.specs.Rules.{agreementTest, tests, changeRule, reportRule, proposalRule}
-use Rattle.rules.specs.Refusals.{slotWithin, wellFormed, aReport, aProposal, unreadable, eventOf, wrongSender, wrongKind, wrongNumber, withoutSeat}
-use Rattle.rules.specs.Refusals.{strayUsed, notAbove, usedAhead, proposalChecks, accepting, actOf, takeOf}
+use Rattle.rules.specs.Rules.{fresh}
+use Rattle.rules.specs.Refusals.{aReport, aProposal}
+use Rattle.rules.specs.Days.{given}
 use Rattle.runs.specs.Office.{Input, answerTo, LogEntry, stateAfter, logOf, Before, at-once, testedIn, CountedAt}
 
 abbrev joins : ℕ → Input
@@ -55,11 +45,7 @@ viewC = record { number = 3; members = record { bits = 0b10001 }; starts = two 2
 
 pub days-count : Before dayA dayC (logOf (fresh 0) threeDays) × CountedAt dayA 0 (made 0 0b1 1 1 zeros)
     × CountedAt dayC 0 (made 0 0b10001 2 2 (two 1 0)) × CountedAt dayC 1 (made 1 0b10001 1 1 zeros)
-unfolding runs upd allb anyb largest tab bytesAll bit has unionOf withoutOf serves encodeReport decodeReport encodeProposal decodeProposal
-    markOf formFor formOf checkFor checkOf andThen fresh netAfter withNet repeats seated opened noticeOf opens nextNumber ownProposal proposed receives
-    proposesFast received matching matchingSlow aboveOwn usesOwn slowCalled joinedNumber slowNumber proposesSlow slowTest agreesKind isNone
-    agreed startOf viewOf concluded agreementTest tests changeRule reportRule proposalRule slotWithin wellFormed unreadable eventOf wrongSender wrongKind
-    wrongNumber withoutSeat strayUsed notAbove usedAhead proposalChecks accepting actOf takeOf answerTo logOf testedIn
+unfolding given runs answerTo logOf testedIn
 days-count = (
   at-once refl (List·Memᴰ·tail (List·Memᴰ·head refl)),
   record { seen = viewA; sent = List·Memᴰ·tail (List·Memᴰ·head refl); office = omega arith; member = refl; stored = refl },

@@ -6,23 +6,17 @@ use mathlib.Core.List.{List, [], _∷_, _++_, map}
 use Prim.Native.Nat.{ℕ, zero, suc, _+_, _-_, _*_, _^_}
 use lib.ListN.{getD, drop}
 use lib.Dec.{eqb, ltb}
-use Rattle.laws.specs.Bit.{bit}
-use Rattle.laws.specs.Big.{bytesAll}
-use Rattle.laws.specs.Fin.{allb, anyb, largest, sum}
+use Rattle.laws.specs.Fin.{allb, largest, sum}
 use Rattle.laws.specs.Tab.{tab}
 use Rattle.laws.specs.Lists.{runs}
-use Rattle.laws.specs.Upd.{ifb, upd}
-use Rattle.seats.specs.Seats.{has, unionOf, withoutOf}
+use Rattle.laws.specs.Upd.{ifb}
+use Rattle.seats.specs.Seats.{has}
 use Rattle.seats.specs.Offices.{serves, countOf}
-use Rattle.records.specs.Layout.{encodeReport, decodeReport, encodeProposal, decodeProposal, markOf, formFor, formOf, checkFor, checkOf}
 use Rattle.records.specs.declared.Proposal.{Proposal}
 use Rattle.rules.specs.State.{None, State, zeros, nothing}
-use Rattle.rules.specs.Rules.{andThen, fresh, netAfter, withNet, repeats, seated, opened, noticeOf, opens, nextNumber, ownProposal, proposed, receives}
-use Rattle.rules.specs.Rules.{proposesFast, received, matching, matchingSlow, aboveOwn, usesOwn, slowCalled, joinedNumber, slowNumber}
-use Rattle.rules.specs.Rules.{proposesSlow, slowTest, agreesKind, isNone, agreed, startOf, viewOf, concluded, agreementTest, tests, changeRule, reportRule}
-use Rattle.rules.specs.Rules.{proposalRule}
-use Rattle.rules.specs.Refusals.{slotWithin, wellFormed, unreadable, eventOf, wrongSender, wrongKind, wrongNumber, withoutSeat, strayUsed}
-use Rattle.rules.specs.Refusals.{notAbove, usedAhead, proposalChecks, accepting, actOf, takeOf}
+use Rattle.rules.specs.Rules.{fresh}
+use Rattle.rules.specs.Refusals.{wellFormed}
+use Rattle.rules.specs.Days.{given}
 use Rattle.runs.specs.World.{netOne, netBy, Item, SentView, viewsIn, World, atFirst, WorldEvent, report, delivery, loss, answered, withLink, idle, reportAnswer, proposalAnswer, next, run, at}
 use Rattle.settling.specs.Statement.{onWay, deliveries}
 
@@ -231,11 +225,7 @@ pub record Summary : Type 0 where
 
 -- who unfolds this unfolds the rules
 unfoldable pub summary : Scenario → Summary
-unfolding bit bytesAll allb anyb largest sum tab upd has serves unionOf withoutOf encodeReport decodeReport encodeProposal decodeProposal
-    markOf formFor formOf checkFor checkOf andThen fresh netAfter withNet repeats seated opened noticeOf opens nextNumber ownProposal proposed receives proposesFast received
-    matching matchingSlow aboveOwn usesOwn slowCalled joinedNumber slowNumber proposesSlow slowTest agreesKind isNone agreed startOf viewOf
-    concluded agreementTest tests changeRule reportRule proposalRule slotWithin wellFormed unreadable eventOf wrongSender wrongKind wrongNumber withoutSeat
-    strayUsed notAbove usedAhead proposalChecks accepting actOf takeOf atFirst answered withLink idle reportAnswer proposalAnswer next runs netBy countOf deliveries
+unfolding given atFirst answered withLink idle reportAnswer proposalAnswer next runs netBy countOf deliveries sum
     followed points changeAt reportAt everywhere holds fails failsByReport reportedLast answersTo pointOf
 summary p =
     let t = pointOf p in

@@ -3,22 +3,11 @@ use mathlib.Core.Path.{_≡_, refl}
 use mathlib.Core.Bool.{false}
 use mathlib.Core.List.{List, [], _∷_, _++_}
 use Prim.Native.Nat.{ℕ}
-use Rattle.laws.specs.Upd.{upd}
-use Rattle.laws.specs.Fin.{allb, anyb, largest}
 use Rattle.laws.specs.Tab.{tab}
-use Rattle.laws.specs.Big.{bytesAll}
-use Rattle.laws.specs.Bit.{bit}
-use Rattle.seats.specs.Seats.{has, unionOf, withoutOf}
-use Rattle.seats.specs.Offices.{serves}
-use Rattle.records.specs.Layout.{encodeReport, decodeReport, encodeProposal, decodeProposal, encodeNotice, encodeView, markOf, formFor, formOf}
-use Rattle.records.specs.Layout.{checkFor, checkOf}
+use Rattle.records.specs.Layout.{encodeReport, encodeProposal}
 use Rattle.records.specs.Run.{runCheck, runSize, runFirst, runRest}
-use Rattle.rules.specs.Rules.{andThen, fresh, netAfter, withNet, repeats, seated, opened, noticeOf, opens, nextNumber}
-use Rattle.rules.specs.Rules.{ownProposal, proposed, receives, proposesFast, received, matching, matchingSlow, aboveOwn, usesOwn, slowCalled}
-use Rattle.rules.specs.Rules.{joinedNumber, slowNumber, proposesSlow, slowTest, agreesKind, isNone, agreed, startOf, viewOf, concluded}
-use Rattle.rules.specs.Rules.{agreementTest, tests, changeRule, reportRule, proposalRule}
-use Rattle.rules.specs.Refusals.{slotWithin, wellFormed, unreadable, eventOf, wrongSender, wrongKind, wrongNumber, withoutSeat}
-use Rattle.rules.specs.Refusals.{strayUsed, notAbove, usedAhead, proposalChecks, accepting, actOf, stepOf, allBytes, madeOf}
+use Rattle.rules.specs.Refusals.{madeOf}
+use Rattle.rules.specs.Days.{given}
 use Rattle.text.specs.Digits.{decimalIn, decimal}
 use Rattle.text.specs.Text.{traceOf, lineOf}
 use Rattle.text.specs.Lines.{frontOf, behindOf, lineFor, goesOn, linesIn, linesOf, noOffice, textOf}
@@ -32,12 +21,8 @@ P = encodeProposal
     (record { sender = 1; kind = 1; members = record { bits = 0b10001 }; start = 1; number = 1; used = tab 16 (λ o. 0) })
 
 pub computed : List ℕ
-unfolding upd allb anyb largest tab bytesAll bit has unionOf withoutOf serves encodeReport decodeReport encodeProposal decodeProposal
-    encodeNotice encodeView markOf formFor formOf checkFor checkOf andThen fresh netAfter withNet repeats seated opened noticeOf opens nextNumber
-    ownProposal proposed receives proposesFast received matching matchingSlow aboveOwn usesOwn slowCalled joinedNumber slowNumber proposesSlow
-    slowTest agreesKind isNone agreed startOf viewOf concluded agreementTest tests changeRule reportRule proposalRule slotWithin wellFormed unreadable
-    eventOf wrongSender wrongKind wrongNumber withoutSeat strayUsed notAbove usedAhead proposalChecks accepting actOf stepOf allBytes madeOf
-    runCheck runSize runFirst runRest decimalIn decimal traceOf lineOf frontOf behindOf lineFor goesOn linesIn linesOf noOffice textOf
+unfolding given madeOf runCheck runSize runFirst runRest decimalIn decimal traceOf lineOf frontOf behindOf lineFor goesOn linesIn linesOf noOffice
+    textOf
 computed = textOf false (0 ∷ (report 0b1 ++ (report 0b10000 ++ (P ++ P))))
 
 -- 1 0 92 2, 2 0 98 2, 3 0 78 3, 4 11 0 3
