@@ -1,16 +1,18 @@
 -- From any row, and so from a fresh one: the words after a run hold the state after it, and what the code sent is what the rules send.
 use mathlib.Core.Path.{_≡_, refl, sym, ap, _∙_}
-use mathlib.Core.List.{List, [], _∷_, _++_}
+use mathlib.Core.List.{List, [], _∷_, _++_, List·Memᴰ, List·Memᴰ·not-nil}
 use Prim.Native.Nat.{ℕ}
 use native.Mathlib.Decide.{ℕ-discrete}
 use borrow.Author.Tests.{ne-eqb}
 use Rattle.records.specs.Layout.{checkOf}
+use Rattle.records.specs.declared.View.{View}
 use Rattle.rule_laws.proofs.Steps.{step-takes, step-skips}
 use Rattle.laws.specs.Lists.{runs}
 use Rattle.rules.specs.State.{State}
-use Rattle.rules.specs.Rules.{Written}
+use Rattle.rules.specs.Rules.{Written, view}
 use Rattle.rules.specs.Refusals.{eventOf, Result, takeOf, stepOf}
-use Rattle.runs.specs.Office.{Input, answerTo, nextState, stateAfter, logOf, sentIn}
+use Rattle.runs.specs.Office.{Input, answerTo, nextState, LogEntry, stateAfter, logOf, sentIn}
+use Rattle.runs.proofs.OfficeViews.{view-of-net}
 use Rattle.row.specs.Row.{Row, stateOf}
 use Rattle.row.proofs.Low.{is-row}
 use Rattle.row.proofs.Holds.{Holds}
@@ -25,6 +27,20 @@ module _ (ws : List ℕ) (h : Handed) (r : Row ws) where
 
   wrote : rowAnswer ws h .written ≡ stepOf (stateOf ws) (h .bytes) (h .room) .written
   wrote = ap (λ (q : RowResult). q .written) (on-row ws (h .bytes) (h .room) (is-row ws r))
+
+  -- a view that the code sends is of the net view that the words hold then
+  pub row-view : (v : View) → List·Memᴰ (view v) (rowAnswer ws h .written)
+      → v .members ≡ stateOf (rowAnswer ws h .words) .net
+  unfolding answerTo
+  row-view v m = go (ℕ-discrete (checkOf (h .bytes)) 0)
+    where
+      go : Dec (checkOf (h .bytes) ≡ 0) → v .members ≡ stateOf (rowAnswer ws h .words) .net
+      go (yes z) =
+          let t = step-takes (stateOf ws) (h .bytes) (h .room) z in
+          let i : Input = record { event = eventOf (h .bytes); room = h .room } in
+          let e : LogEntry = record { before = stateOf ws; handed = i } in
+          rw (held .1, t) (view-of-net e v (rw (wrote, t) at m))
+      go (no n) = absurd (List·Memᴰ·not-nil (rw (wrote, step-skips (stateOf ws) (h .bytes) (h .room) n .1) at m))
 
   -- one more record in front of a run
   run-then : (hs : List Handed) → Holds (rowAfter (rowAnswer ws h .words) hs) (stateAfter (stateOf (rowAnswer ws h .words)) (inputsOf hs))

@@ -269,3 +269,11 @@ pub one-view : (e : LogEntry) (v w : View) → List·Memᴰ (view v) (answerOf e
 one-view e v w m n =
     let a = answer-ends (e .before) (e .handed) .1 in
     a v m .is ∙ sym (a w n .is)
+
+-- a view that is sent is of the net view at that moment
+pub view-of-net : (e : LogEntry) (v : View) → List·Memᴰ (view v) (answerOf e .written)
+    → v .members ≡ answerOf e .state .net
+unfolding viewOf concluded
+view-of-net e v m =
+    let a = answer-ends (e .before) (e .handed) .1 v m in
+    ap (λ (v : View). v .members) (a .is) ∙ sym (ap (λ (t : State). t .net) (a .state))
