@@ -25,6 +25,7 @@ use Rattle.rules.specs.Rules.{notice, proposal, Outcome, nothingWritten, andThe
 use Rattle.rules.specs.Rules.{slowCalled, beginsIn, proposesSlow, slowTest, isNone, agreesKind, agreesIn, agreed, startOf, viewOf, concluded, agreementTest, tests, changeRule, reportRule, proposalRule}
 use Rattle.moshe.specs.Moshe.{Leaves, Server, toClients, toServers, Handled, nothingSent, thenRun, local, initially, propsOf, usedPropsOf, updateNSView, anyLocal, startFA, sendStartChange, proposalFA, others, sendProposal, storeProp, useProps, sendView}
 use Rattle.moshe.specs.Moshe.{deliverView, matchesNSView, onProposal, startsFA, onNE, reachedFA, neverSA, noSA, fastOnProposal, fastOnNE, serverOf, stateFrom, addressed, handledOf, needed, slowProposal, reached, onProposal01, onNE01}
+use Rattle.moshe.specs.Moshe.{IsFast, Known, OwnFast, OthersKnown}
 use Rattle.rule_laws.proofs.Parts.{proposed-reads, received-reads}
 use Rattle.rule_laws.proofs.Repeats.{repeat-rule, change-rule}
 use Rattle.rule_laws.proofs.Tests.{not-called, agreed-out}
@@ -225,18 +226,6 @@ proposal-figure s p = leaves _ _ _ _ (proposal-keeps s p)
 
 -- Fast agreement as printed. It takes mode fast, which a report sets, that slow agreement is not called for, that the own stored proposal
 -- is fast, and that those of the others have kind 1 or 2.
-abbrev pub IsFast : Slot → Type 0
-IsFast v = v .present ≡ true → v .proposal .kind ≡ fast
-
-abbrev pub Known : Slot → Type 0
-Known v = v .present ≡ true → (v .proposal .kind ≡ fast) ⊎ (v .proposal .kind ≡ slow)
-
-abbrev pub OwnFast : State → Type 0
-OwnFast s = s .own < 16 → IsFast (storedAt s (s .own))
-
-abbrev pub OthersKnown : State → Type 0
-OthersKnown s = (o : ℕ) → o < 16 → (o ≡ s .own → ⊥) → Known (storedAt s o)
-
 module _ (s : State) (m : s .mode ≡ Fast) (c : slowCalled s ≡ false) (f : OwnFast s) (k : OthersKnown s) where
   kind-fast : (o : ℕ) → o < 16 → storedAt s o .present ≡ true → inSlot s o .members .bits ≡ s .net .bits → inSlot s o .kind ≡ fast
   kind-fast o l h e = go (ℕ-discrete o (s .own))

@@ -1,9 +1,10 @@
 -- Moshe, source document 004, Figures 5 and 6, in the paper's names. Clients are seats, servers are offices, and its messages are the
 -- records of document 01. The three functions that Figure 6 leaves to Figure 7 are parameters of the handlers.
 use mathlib.Core.Path.{_≡_}
-use mathlib.Core.Bool.{Bool, false, _&&_, _||_, not}
+use mathlib.Core.Bool.{Bool, true, false, _&&_, _||_, not}
+use mathlib.Core.Logic.{_⊎_}
 use mathlib.Core.List.{List, [], _∷_, _++_, map}
-use Prim.Native.Nat.{ℕ, _+_, max}
+use Prim.Native.Nat.{ℕ, _+_, _<_, max}
 use lib.ListN.{getD}
 use lib.Dec.{eqb}
 use Rattle.laws.specs.Fin.{allb, anyb, largest}
@@ -15,7 +16,7 @@ use Rattle.seats.specs.declared.SeatSet.{SeatSet}
 use Rattle.records.specs.declared.Report.{Report}
 use Rattle.records.specs.declared.Proposal.{Proposal}
 use Rattle.records.specs.declared.View.{View}
-use Rattle.rules.specs.State.{Mode, None, Fast, Slot, State, kindOf, zeros, nothing, keeping}
+use Rattle.rules.specs.State.{Mode, None, Fast, Slot, State, fast, slow, kindOf, zeros, nothing, keeping, storedAt}
 use Rattle.rules.specs.Rules.{Written, notice, proposal, view, Outcome, andThen, receives, slowCalled, beginsIn, proposesSlow, agreed}
 
 -- Figure 5, types
@@ -285,3 +286,16 @@ module _ (accepted : List ℕ) where
 
   abbrev pub onNE01 : Server → NE → Handled
   onNE01 = onNE needed slowProposal reached
+
+-- where fast agreement is as printed: the own stored proposal is fast, and those of the others have kind 1 or 2
+abbrev pub IsFast : Slot → Type 0
+IsFast v = v .present ≡ true → v .proposal .kind ≡ fast
+
+abbrev pub Known : Slot → Type 0
+Known v = v .present ≡ true → (v .proposal .kind ≡ fast) ⊎ (v .proposal .kind ≡ slow)
+
+abbrev pub OwnFast : State → Type 0
+OwnFast s = s .own < 16 → IsFast (storedAt s (s .own))
+
+abbrev pub OthersKnown : State → Type 0
+OthersKnown s = (o : ℕ) → o < 16 → (o ≡ s .own → ⊥) → Known (storedAt s o)
