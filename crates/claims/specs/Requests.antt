@@ -1,0 +1,140 @@
+-- The change requests that have landed, in the words of document 02.
+use mathlib.Core.Path.{_≡_}
+use mathlib.Core.Bool.{true}
+use mathlib.Core.List.{List, [], _∷_, _++_, map}
+use Prim.Native.Nat.{ℕ, _+_, _*_, _^_, _≤_, _<_}
+use lib.ListN.{length, getD}
+use lib.Dec.{ltb}
+use lib.Count.{ones, trailingZeros}
+use Rattle.laws.specs.Big.{Below}
+use Rattle.laws.specs.Checks.{firstOf}
+use Rattle.laws.specs.Fin.{largest, sum}
+use Rattle.laws.specs.Lists.{Every}
+use Rattle.laws.specs.Upd.{ifb}
+use Rattle.seats.specs.Seats.{seatCount}
+use Rattle.seats.specs.Offices.{officeOf, serves, officesOf, countOf, lowestOf}
+use Rattle.records.specs.Fits.{FitsReport}
+use Rattle.records.specs.Layout.{viewMark, viewLength, syncLength, checkOf, checkOwn, decodeView, decodeSync}
+use Rattle.records.specs.declared.Report.{Report}
+use Rattle.records.specs.declared.Proposal.{Proposal}
+use Rattle.records.specs.declared.View.{View}
+use Rattle.desk.specs.declared.checks.Desk.{Desk}
+use Rattle.desk.specs.Hearing.{freshDesk, hearOf}
+use Rattle.sheet.specs.declared.Along.the-variants as along
+use Rattle.sheet.specs.Sheet.{recordsOn, counts, askChecks, firstBad, cameAlong}
+use Rattle.sheet.specs.Answers.{GoodRecord, Tells}
+use Rattle.sheet.specs.Days.{computedAnswers, statedAnswers, computedRefusals, statedRefusals}
+use Rattle.sheet.specs.Days.{computedFull, statedFull}
+use Rattle.rules.specs.State.{State, zeros}
+use Rattle.rules.specs.Rules.{Written, view, nothingWritten, fresh, hasRecipient, repeats, viewOf, reportRule}
+use Rattle.rules.specs.Refusals.{wellFormed, fullRoom, aReport, eventOf, stepOf, bytesOf}
+use Rattle.rule_laws.proofs.Steps.{accepted}
+use Rattle.waiting.specs.declared.Waiting.the-variants as waits
+use Rattle.waiting.specs.Waiting.{waitingFor, waitingForOfAll}
+use Rattle.waiting.specs.Days.{answersComputed, answersStated}
+use Rattle.waiting.proofs.Laws.{Means}
+use Rattle.runs.specs.Office.{Input, stateAfter, logOf, sentIn}
+use Rattle.desk_runs.specs.Sent.{OfSeats, sentTo, hearings}
+use Rattle.desk_runs.specs.Syncs.{syncAfter, SyncFor}
+use Rattle.desk_runs.specs.Days.{computedDay, statedDay, seatRefusals, seatReasons}
+use Rattle.row.specs.Row.{Row, stateOf, word}
+use Rattle.row.proofs.Holds.{Holds}
+use Rattle.agree.specs.Starts.{laidOf}
+use Rattle.step.specs.Step.{stepRow}
+use Rattle.code_runs.specs.Rows.{Handed, rowSent}
+
+-- Request 1. Who are we waiting for?
+pub record Request1 : Type 0 where
+  -- What each answer says of the state: 2, nobody, met, or the lowest office of the net view without its proposal.
+  pub means : (s : State) → Means s (waitingFor s)
+  -- It stops at the first such office, and its answer equals the one found by going through all sixteen.
+  pub same-answer : (s : State) → waitingFor s ≡ waitingForOfAll s
+  -- Along every run from fresh an office never waits for itself,
+  pub never-itself : (own : ℕ) (hs : List Input) → waitingFor (stateAfter (fresh own) hs) ≡ waits.For own → ⊥
+  -- and the test is never found met.
+  pub never-met : (own : ℕ) (hs : List Input) → waitingFor (stateAfter (fresh own) hs) ≡ waits.Met → ⊥
+  -- After document 01's days it waits for whom it should.
+  pub days-answered : answersComputed ≡ answersStated
+
+-- Request 2. Reports that change nothing.
+pub record Request2 : Type 0 where
+  -- A report that leaves the net view equal to what it was is accepted and does nothing: 0 bytes, state unchanged;
+  pub repeat-step : (s : State) (r : Report) → wellFormed s ≡ true → repeats s r ≡ true → (b : List ℕ) (room : ℕ)
+      → fullRoom ≤ room → checkOf b ≡ 0 → eventOf b ≡ aReport r → stepOf s b room ≡ accepted (nothingWritten s)
+  -- every word stays.
+  pub repeat-stays : (ws b : List ℕ) (room : ℕ) (r : Report) → Row ws → ((k : ℕ) → getD ws k 0 < word)
+      → wellFormed (stateOf ws) ≡ true → fullRoom ≤ room → checkOf b ≡ 0 → eventOf b ≡ aReport r
+      → repeats (stateOf ws) r ≡ true → stepRow ws b room ≡ record { refusal = 0; written = []; words = ws }
+  -- The last report again is such a one.
+  pub again : (s : State) (r : Report) → s .net .bits < 2 ^ 64 → FitsReport r
+      → repeats (reportRule s r .state) r ≡ true
+
+-- Request 3. The desk's own end.
+pub record Request3 : Type 0 where
+  -- A fresh seat accepts every notice and view that its fresh office sends it, also when it has left and come back,
+  pub desk-accepts : (seat : ℕ) → seat < seatCount → (hs : List Input) → Every (λ h. OfSeats (h .event)) hs
+      → let sent = sentIn (logOf (fresh (officeOf seat)) hs) in
+      Every (λ h. h .refusal ≡ 0) (hearings (freshDesk seat) (sentTo seat sent))
+  -- and everything that the code of its office sends it, whatever bytes the office is handed.
+  pub code-heard : (seat : ℕ) → seat < seatCount → (ws : List ℕ) → Holds ws (fresh (officeOf seat))
+      → (hs : List Handed) → Every (λ (h : Handed). Below 256 (h .bytes)) hs
+      → Every (λ h. h .refusal ≡ 0) (hearings (freshDesk seat) (sentTo seat (rowSent ws hs)))
+  -- A seat that refuses keeps what it knew.
+  pub seat-keeps : (d : Desk) (b : List ℕ) → (hearOf d b .refusal ≡ 0 → ⊥) → hearOf d b .desk ≡ d
+  -- A day of seat 0, which leaves and comes back;
+  pub seat-day : computedDay ≡ statedDay
+  -- each reason to refuse is met, in the order of the request.
+  pub each-reason : seatRefusals ≡ seatReasons
+
+-- Request 4. Who came along from the old view.
+pub record Request4 : Type 0 where
+  -- The answer is the lowest member seat whose record is missing, or the set of members whose record names the number.
+  pub along-tells : (sheet shown : List ℕ) (previous : ℕ) → checkOwn viewMark viewLength shown ≡ 0
+      → firstOf (askChecks (decodeView shown) previous (length sheet)) ≡ 0 → firstBad (recordsOn sheet) ≡ 0
+      → Tells (decodeView shown) (map decodeSync (recordsOn sheet)) previous (cameAlong sheet shown previous)
+  -- If two records of a seat count, the first on the sheet does: behind it any other of that seat may stand.
+  pub first-decides : (shown : List ℕ) (previous m : ℕ) (a : List ℕ) → length a ≡ m * syncLength
+      → (r p q b c : List ℕ) (n : ℕ) → length b ≡ n * syncLength → GoodRecord r → GoodRecord p → GoodRecord q
+      → counts (decodeView shown) (decodeSync r .seat) (decodeSync r) ≡ true
+      → decodeSync p .seat ≡ decodeSync r .seat → decodeSync q .seat ≡ decodeSync r .seat
+      → cameAlong (a ++ (r ++ (b ++ (p ++ c)))) shown previous ≡ cameAlong (a ++ (r ++ (b ++ (q ++ c)))) shown previous
+  -- Neighbours of different seats may be exchanged.
+  pub exchange : (shown : List ℕ) (previous m : ℕ) (a : List ℕ) → length a ≡ m * syncLength
+      → (r q b : List ℕ) → GoodRecord r → GoodRecord q → (decodeSync r .seat ≡ decodeSync q .seat → ⊥)
+      → cameAlong (a ++ (r ++ (q ++ b))) shown previous ≡ cameAlong (a ++ (q ++ (r ++ b))) shown previous
+  -- The record that a desk makes after the last notice before a view counts for that view,
+  pub sync-counts : (seat : ℕ) → seat < seatCount → (hs : List Input) → Every (λ h. OfSeats (h .event)) hs
+      → (heard later : List Written) (v : View)
+      → sentTo seat (sentIn (logOf (fresh (officeOf seat)) hs)) ≡ heard ++ (view v ∷ later) → SyncFor seat heard v
+  -- so no desk whose record is on the sheet is told that its own is missing.
+  pub own-there : (seat : ℕ) (heard : List Written) (v : View) → SyncFor seat heard v → (sheet : List ℕ)
+      (a b : List (List ℕ)) → recordsOn sheet ≡ a ++ (syncAfter seat heard ∷ b) → (previous : ℕ)
+      → cameAlong sheet (bytesOf (view v)) previous ≡ along.Missing seat → ⊥
+  -- The sheets of three desks,
+  pub each-answer : computedAnswers ≡ statedAnswers
+  -- each reason to refuse, in the order of the request,
+  pub each-refusal : computedRefusals ≡ statedRefusals
+  -- and the longest sheet.
+  pub full-sheets : computedFull ≡ statedFull
+
+-- Request 5. Largest start number: found in one pass, as a running value.
+pub record Request5 : Type 0 where
+  -- At each office it is the largest of those copied so far,
+  pub largest-so-far : (s : State) (n : ℕ) → laidOf n s .largest ≡ largest n (λ o. getD (laidOf n s .starts) o 0)
+  -- 0 before the first;
+  pub laid-none : (s : State) → laidOf 0 s ≡ record { starts = zeros; largest = 0 }
+  -- at the end the numbers copied are the view's, and 1 + the largest is its number.
+  pub laid-view : (s : State)
+      → record { number = 1 + laidOf 16 s .largest; members = s .net; starts = laidOf 16 s .starts } ≡ viewOf s
+
+-- Request 6. Offices with their count.
+pub record Request6 : Type 0 where
+  -- The count is that of the set: the sum over the sixteen offices,
+  pub count-sum : (x : ℕ) → countOf x ≡ sum 16 (λ o. ifb (serves x o) 1 0)
+  -- which are the ones of the office set.
+  pub count-ones : (x : ℕ) → ones (officesOf x) ≡ countOf x
+  -- Trailing zeros find the lowest office.
+  pub trailing-office : (b : ℕ) → trailingZeros 16 b ≡ lowestOf b
+  -- A proposal has a recipient where the count is above 1.
+  pub recipient-count : (p : Proposal) → p .sender < 16 → serves (p .members .bits) (p .sender) ≡ true
+      → hasRecipient p ≡ ltb 1 (countOf (p .members .bits))
