@@ -9,9 +9,9 @@
 #              the paper's names
 #   functions  `crate::module::function` is there
 #   crates     docs/CRATES.md has the crates of crates.txt, under its headings, in its order, each with its modules
-#   counts     each row of the reading order in docs/CLAIMS.md has the lines of definitions of its files, and the
-#              total is theirs
-#   claims     docs/CLAIMS.md names every field of Claims; what README.md and docs/CLAIMS.md call a claim is a field
+#   counts     each row of the reading order in docs/CLAIMS.md has the lines of its files, and the total is theirs
+#   claims     docs/CLAIMS.md names every field of the claims, by a theorem that claims/proofs/Holds has for it; what
+#              README.md and docs/CLAIMS.md call a claim is a field
 # The last line is 'N passed, M failed', one check for each kind and document; the exit status is 0 only where M is 0.
 set -u
 cd "$(dirname "$(readlink -f "${BASH_SOURCE[0]}")")/.." || exit 1
@@ -28,13 +28,24 @@ checked() {
     found=0
 }
 
-# every word of the definitions, laws, contracts and functions; every file and folder; their names
-find crates \( -name '*.antt' -o -name '*.rt' \) -exec cat {} + |
-    grep -oE '[A-Za-z][A-Za-z0-9_′-]*' | sort -u >"$scratch/words"
-find . \( -path ./target -o -path ./.git \) -prune -o -print | sed 's|^\./||' >"$scratch/tree"
-sed 's|.*/||' "$scratch/tree" | sort -u >"$scratch/bases"
-declare -A there=()
-while IFS= read -r path; do there[$path]=yes; done <"$scratch/tree"
+# there: every file and folder by its path, and by its name; defined: "file name" for each definition, law, field,
+# constructor, function, type and constant, with what a face hands on; words: every word of them
+declare -A there=() defined=()
+while IFS= read -r path; do there[$path]=yes there[${path##*/}]=yes; done < <(
+    find . \( -path ./target -o -path ./.git \) -prune -o -print | sed 's|^\./||'
+)
+mapfile -t theory < <(find crates -name '*.antt' ! -name Proof.antt)
+mapfile -t code < <(find crates -name '*.rt')
+while IFS= read -r entry; do defined[$entry]=yes; done < <(
+    awk '/^ *(--|use |$)/ { next }
+        { line = $0; sub(/^ */, "", line); while (sub(/^(abbrev|unfoldable|pub|record|data) /, "", line)) { }
+          sub(/ .*/, "", line); print FILENAME " " line }' "${theory[@]}"
+    awk '/^ *\/\// { next }
+        match($0, /(fn|struct|enum|const|mod) [A-Za-z_0-9]+/) {
+            word = substr($0, RSTART, RLENGTH); sub(/.* /, "", word); print FILENAME " " word }
+        /^pub use / { word = $0; sub(/.*::/, "", word); sub(/;.*/, "", word); print FILENAME " " word }' "${code[@]}"
+)
+cat "${theory[@]}" "${code[@]}" | grep -oE '[A-Za-z][A-Za-z0-9_′-]*' | sort -u >"$scratch/words"
 
 # joined FILE: a document without its indented commands, as one line: a citation may go on in the next
 joined() { grep -vE '^    ' "$1" | tr '\n' ' ' | sed -E 's/  +/ /g'; }
@@ -56,36 +67,25 @@ exists() {
     for form in "$path" "$path.antt" "crates/$path" "crates/$path.antt"; do
         [ -z "${there[$form]:-}" ] || return 0
     done
-    case $path in
-    */*) for form in crates/*/"$path" crates/*/"$path".antt; do [ ! -e "$form" ] || return 0; done ;;
-    *) grep -qxF -- "$path" "$scratch/bases" && return 0 ;;
-    esac
+    for form in crates/*/"$path" crates/*/"$path".antt; do [ ! -e "$form" ] || return 0; done
     return 1
 }
 
-# file_of PATH: the file that a place names
+# file_of PATH: file becomes the one that a place names
 file_of() {
-    local form
-    for form in "$1" "$1.antt" "crates/$1" "crates/$1.antt"; do
-        if [ -f "$form" ]; then echo "$form" && return; fi
-    done
-}
-
-# defines FILE NAME: a definition, a law, a field or a constructor; in code a function, a type or a constant
-defines() {
-    case $1 in
-    *.antt) grep -qE "^ *((abbrev|unfoldable|pub|record|data) )*$2( |\$)" "$1" ;;
-    *) grep -qE "(fn|struct|enum|const|mod) $2([^A-Za-z0-9_]|\$)" "$1" ;;
-    esac
+    for file in "$1" "$1.antt" "crates/$1" "crates/$1.antt"; do [ ! -f "$file" ] || return 0; done
+    file=
 }
 
 # function_there PATH: a module of a crate, or what a module or the crate's face has
 function_there() {
-    local crate=${1%%::*} rest=${1#*::} last module file
+    local crate=${1%%::*} rest=${1#*::} last module form
     last=${rest##*::} module=${rest%"$last"} module=${module%::}
-    [ -f "crates/$crate/src/${rest//:://}.rt" ] && return 0
-    for file in "crates/$crate/src/${module//:://}.rt" "crates/$crate/src/lib.rt"; do
-        [ -f "$file" ] && grep -qE "(fn |struct |enum |const |::)$last([^A-Za-z0-9_]|\$)" "$file" && return 0
+    for form in "crates/$crate/src/${rest//:://}.rt" crates/*/src/"${1//:://}.rt"; do
+        [ ! -f "$form" ] || return 0
+    done
+    for form in "crates/$crate/src/${module//:://}.rt" "crates/$crate/src/lib.rt"; do
+        [ -z "${defined[$form $last]:-}" ] || return 0
     done
     return 1
 }
@@ -118,23 +118,24 @@ for doc in README.md docs/*.md docs/landings/HOUSE.md; do
         case $link in
         http:* | https:* | '#'*) continue ;;
         esac
-        [ -e "$(dirname "$doc")/${link%%#*}" ] || fault "$doc: the link to $link leads nowhere"
+        [ -e "${doc%/*}/${link%%#*}" ] || [ -e "./${link%%#*}" ] || fault "$doc: the link to $link leads nowhere"
     done < <(grep -oE '\]\([^)]+\)' "$scratch/joined" | sed -E 's/^\]\(//; s/\)$//')
     checked
 
     while IFS= read -r place; do
         path=${place##*(\`} path=${path%\`}
-        file=$(file_of "$path")
+        file_of "$path"
         if [ -z "$file" ]; then fault "$doc: there is no file $path" && continue; fi
-        while IFS= read -r word; do
-            defines "$file" "$word" || fault "$doc: $word is not defined in $file"
-        done < <(unquoted <<<"${place% (*}")
+        place=${place% (*} place=${place//\`/ } place=${place//,/ }
+        for word in $place; do
+            [ "$word" = and ] || [ -n "${defined[$file $word]:-}" ] || fault "$doc: $word is not defined in $file"
+        done
     done < <(grep -oE "$place_like" "$scratch/joined" | sort -u)
     checked
 
     if [ "$doc" != docs/MOSHE.md ]; then
         while IFS= read -r word; do
-            grep -qxF -- "$word" "$scratch/bases" || fault "$doc: nothing is named $word"
+            [ -n "${there[$word]:-}" ] || fault "$doc: nothing is named $word"
         done < <(grep -xE "$name_like" "$scratch/quoted" | grep -vxFf "$scratch/words")
         checked
     fi
@@ -145,7 +146,7 @@ for doc in README.md docs/*.md docs/landings/HOUSE.md; do
     checked
 done
 
-# the crates: a heading of crates.txt up to its first colon, semicolon or comma; then | `crate` | modules | what it is |
+# the crates: a heading of crates.txt up to its first colon, semicolon or comma; then | `crate` | modules | what |
 layers() { sed -nE 's/^# ([a-z][^:;,]*).*/# \1/p; s/^([a-z_]+):.*/\1/p' crates.txt; }
 tabled() { sed -nE 's/^## ([^:;,]*).*/# \l\1/p; s/^\| `([a-z_]+)` \|.*/\1/p' docs/CRATES.md; }
 while IFS= read -r line; do
@@ -156,37 +157,52 @@ while IFS= read -r line; do
 done < <(diff <(layers) <(tabled))
 checked
 while IFS='|' read -r _ crate modules _; do
-    crate=$(tr -d '` ' <<<"$crate") said=$(unquoted <<<"$modules" | sort | tr '\n' ' ')
-    has=$(find "crates/$crate/src" -name '*.rt' 2>/dev/null | sed -E 's|^crates/[a-z_]+/src/||; s|\.rt$||; s|/|::|g' |
-        grep -vxE 'lib|main' | sort | tr '\n' ' ')
-    [ "$said" = "$has" ] || fault "docs/CRATES.md: $crate has the modules ${has:-none}, and not ${said:-none}"
+    crate=${crate//[\` ]/} modules=${modules//[\` ]/} has=
+    for file in crates/"$crate"/src/*.rt crates/"$crate"/src/*/*.rt; do
+        file=${file#"crates/$crate/src/"} file=${file%.rt}
+        case $file in lib | main) ;; *) has+=${has:+,}${file//\//::} ;; esac
+    done
+    has=$(tr ',' '\n' <<<"${has:-none}" | sort | tr '\n' ' ') said=$(tr ',' '\n' <<<"$modules" | sort | tr '\n' ' ')
+    [ "$said" = "$has" ] || fault "docs/CRATES.md: the modules of $crate are $has, and not $said"
 done < <(grep -E '^\| `[a-z_]+` \|' docs/CRATES.md)
 checked
 
-# lines of definitions: neither imports nor comments nor blank; a row is | files | lines | what it says |
+# lines of definitions: neither imports nor comments nor blank; a row is | files | lines | what they say |
 total=0
 while IFS='|' read -r _ files lines _; do
-    count=0
-    for path in $(unquoted <<<"$files"); do
-        file=$(file_of "$path")
-        [ -z "$file" ] || count=$((count + $(grep -cvE '^ *(--|$)|^use |^pub mod' "$file")))
+    IFS=' ' read -ra paths <<<"${files//[\`,]/}"
+    listed=(/dev/null)
+    for path in "${paths[@]}"; do
+        for file in crates/$path.antt; do
+            [ "${file##*/}" = Lib.antt ] || listed+=("$file")
+        done
+        exists "$path" || fault "docs/CLAIMS.md: there is no $path"
     done
-    total=$((total + count)) lines=$(tr -d ', ' <<<"$lines")
-    [ "$count" = "$lines" ] || fault "docs/CLAIMS.md: $count lines of definitions, and not $lines, in $files"
+    count=$(cat "${listed[@]}" | grep -cvE '^ *(--|$)|^use |^pub mod')
+    total=$((total + count)) lines=${lines//[, ]/}
+    [ "$count" = "$lines" ] || fault "docs/CLAIMS.md: $count lines of definitions, and not $lines, in ${paths[*]}"
 done < <(grep -E '^\| `[a-z_]+/specs/' docs/CLAIMS.md)
-said=$(sed -nE 's/.* ([0-9,]+) lines of definitions in all.*/\1/p' docs/CLAIMS.md | tr -d ',')
+said=$(joined docs/CLAIMS.md | grep -oE '[0-9,]+ lines of definitions in all' | tr -dc '0-9')
 [ "$said" = "$total" ] || fault "docs/CLAIMS.md: $total lines of definitions in all, and not ${said:-said}"
 checked
 
-# the claims: the fields of the record, and what the documents call one
-sed -nE '/^pub record Claims/,$ s/^  pub ([a-z][A-Za-z0-9-]*) :.*/\1/p' crates/claims/specs/Claims.antt \
-    >"$scratch/fields"
+# the claims: the fields of the records, but for those that are records of claims again; and the theorem of each
+sed -nE 's/^  pub ([a-z][A-Za-z0-9-]*) :.*/\1/p' crates/claims/specs/*.antt | sort -u >"$scratch/fields"
 while IFS= read -r field; do
     grep -qF -- "\`$field\`" docs/CLAIMS.md || fault "docs/CLAIMS.md does not name the claim $field"
-done <"$scratch/fields"
+done < <(sed -nE '/ : [A-Z][A-Za-z0-9]*$/d; s/^  pub ([a-z][A-Za-z0-9-]*) :.*/\1/p' crates/claims/specs/*.antt)
+checked
+shown=" $(tr '\n' ' ' <crates/claims/proofs/Holds.antt) "
+while IFS='|' read -r _ _ field theorems _; do
+    field=${field//[\` ]/} theorems=${theorems% (*} theorems=${theorems//[\`,]/ }
+    for theorem in $theorems; do
+        [[ $shown =~ [\ {]$field\ =\ [^\;]*[^a-z-]*$theorem[^A-Za-z0-9-] ]] ||
+            fault "docs/CLAIMS.md: claims/proofs/Holds does not show $field by $theorem"
+    done
+done < <(grep -E '^\|[^|]*\| `[a-z][A-Za-z0-9-]*` \| `.*/proofs/' docs/CLAIMS.md)
 checked
 while IFS= read -r field; do
-    grep -qxF -- "$field" "$scratch/fields" || fault "$field is called a claim, and is no field of Claims"
+    grep -qxF -- "$field" "$scratch/fields" || fault "$field is called a claim, and is no field of the claims"
 done < <({ joined README.md && joined docs/CLAIMS.md; } |
     grep -oE "[Cc]laims? $name((,| and|, and) $name)*" | unquoted | sort -u)
 checked
