@@ -196,7 +196,7 @@ shown=" $(tr '\n' ' ' <crates/claims/proofs/Holds.antt) "
 while IFS='|' read -r _ _ field theorems _; do
     field=${field//[\` ]/} theorems=${theorems% (*} theorems=${theorems//[\`,]/ }
     for theorem in $theorems; do
-        [[ $shown =~ [\ {]$field\ =\ [^\;]*[^a-z-]*$theorem[^A-Za-z0-9-] ]] ||
+        [[ $shown =~ [\ {]$field\ =\ ([^\;]*[^\;A-Za-z0-9-])?$theorem[^A-Za-z0-9-] ]] ||
             fault "docs/CLAIMS.md: claims/proofs/Holds does not show $field by $theorem"
     done
 done < <(grep -E '^\|[^|]*\| `[a-z][A-Za-z0-9-]*` \| `.*/proofs/' docs/CLAIMS.md)
