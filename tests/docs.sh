@@ -136,7 +136,7 @@ for doc in README.md docs/*.md docs/landings/HOUSE.md; do
     if [ "$doc" != docs/MOSHE.md ]; then
         while IFS= read -r word; do
             [ -n "${there[$word]:-}" ] || fault "$doc: nothing is named $word"
-        done < <(grep -xE "$name_like" "$scratch/quoted" | grep -vxFf "$scratch/words")
+        done < <(grep -xE "$name_like" "$scratch/quoted" | comm -23 - "$scratch/words")
         checked
     fi
 
