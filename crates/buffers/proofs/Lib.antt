@@ -1,3 +1,6 @@
-pub mod Room
+-- input
 pub mod Window
-pub mod Standing
+-- output
+pub mod Room
+-- progress
+pub mod ProgressLaws

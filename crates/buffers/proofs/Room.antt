@@ -1,9 +1,9 @@
--- Laws of the output buffer.
+-- For the module output: laws of the output buffer.
 use mathlib.Core.Path.{_≡_, refl, ap, _∙_}
 use mathlib.Core.Bool.{Bool, true, false}
 use mathlib.Core.Logic.{_⊎_, inl, inr, ⊎-elim}
 use mathlib.Core.List.{List, [], _++_}
-use Prim.Native.Nat.{ℕ, _+_, _≤_}
+use Prim.Native.Nat.{ℕ, _+_, _-_, _≤_}
 use native.Mathlib.Omega.{arith}
 use lib.ListN.{length, take, drop, length-append}
 use lib.Seq.{sets-eq, length-take-le, take-at}
@@ -11,14 +11,14 @@ use lib.Dec.{eqb, leb}
 use borrow.Author.Tests.{eqb-true, leb-true}
 use Rattle.laws.proofs.Fin.{true-false}
 use Rattle.text.specs.Put.{Put}
-use Rattle.buffers.specs.Room.{roomFor, Sent}
+use Rattle.buffers.specs.Room.{bufferLength, mostLine, roomFor, Sent}
 
 -- the test of room
 pub room-waiting : (filled : ℕ) (t : Bool) → t ≡ true → eqb filled 0 ≡ roomFor filled t
 unfolding roomFor
 room-waiting filled t e = rw e
 
-pub room-line : (filled : ℕ) (t : Bool) → t ≡ false → leb filled 65087 ≡ roomFor filled t
+pub room-line : (filled : ℕ) (t : Bool) → t ≡ false → leb filled (bufferLength - mostLine) ≡ roomFor filled t
 unfolding roomFor
 room-line filled t e = rw e
 
@@ -32,17 +32,19 @@ unfolding roomFor
 room-none filled true h e = eqb-true filled 0 h
 room-none filled false h e = absurd (true-false false e refl)
 
-pub room-fits : (filled : ℕ) (t : Bool) → roomFor filled t ≡ true → filled ≤ 65087
+pub room-fits : (filled : ℕ) (t : Bool) → roomFor filled t ≡ true → filled + mostLine ≤ bufferLength
 unfolding roomFor
 room-fits filled true h = let z = eqb-true filled 0 h in omega arith
-room-fits filled false h = leb-true filled 65087 h
+room-fits filled false h = let z = leb-true filled (bufferLength - mostLine) h in omega arith
 
 -- text put behind what is unwritten
-pub put-behind : {most at next : ℕ} {o o′ text : List ℕ} → Put most o at text next o′ → at + length text ≤ length o → take next o′ ≡ take at o ++ text
+pub put-behind : {most at next : ℕ} {o o′ text : List ℕ} → Put most o at text next o′ → at + length text ≤ length o
+    → take next o′ ≡ take at o ++ text
 put-behind {most} {at} {next} {o} {o′} {text} p h =
     let n : length (take at o) ≡ at = length-take-le at o (omega arith) in
     let l : length (take at o ++ text) ≡ at + length text = length-append (take at o) text ∙ omega arith in
-    rw (p .output, p .place, sets-eq text o at h) (take-at (take at o ++ text) (drop (at + length text) o) (at + length text) l)
+    rw (p .output, p .place, sets-eq text o at h)
+    (take-at (take at o ++ text) (drop (at + length text) o) (at + length text) l)
 
 pub nothing-due : (o : List ℕ) (n : ℕ) → n ≡ 0 → take n o ≡ []
 nothing-due o n h = rw h
@@ -51,7 +53,8 @@ nothing-due o n h = rw h
 pub sent-none : {filled : ℕ} {waiting : Bool} → Sent filled waiting 0
 sent-none = record { all = inr refl; unasked = λ e. refl }
 
-pub sent-due : {filled sent : ℕ} {waiting may : Bool} (o : List ℕ) {part : List ℕ} → filled ≤ length o → part ≡ take filled o
+pub sent-due : {filled sent : ℕ} {waiting may : Bool} (o : List ℕ) {part : List ℕ} → filled ≤ length o
+    → part ≡ take filled o
     → (sent ≡ length part) ⊎ (sent ≡ 0) → may ≡ roomFor filled waiting → may ≡ false → Sent filled waiting sent
 sent-due {filled} o l e s r f = record {
   all = ⊎-elim (λ z. inl (z ∙ ap length e ∙ length-take-le filled o l)) (λ z. inr z) s;

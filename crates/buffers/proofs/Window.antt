@@ -1,4 +1,4 @@
--- Laws of the input buffer.
+-- For the module input: laws of the input buffer.
 use mathlib.Core.Path.{_≡_, refl, sym, ap, _∙_}
 use mathlib.Core.Bool.{Bool, true, false}
 use mathlib.Core.Logic.{_⊎_, inl, inr}
@@ -13,6 +13,7 @@ use Rattle.laws.proofs.Fin.{true-false}
 use Rattle.laws.proofs.Big.{sets-front, sets-rest}
 use Rattle.laws.proofs.Seqs.{store-turn, drop-take}
 use Rattle.records.specs.Run.{runCheck}
+use Rattle.buffers.specs.Room.{bufferLength}
 use Rattle.buffers.specs.Place.{Within, windowOf, waitsOf, Refilled}
 use Rattle.buffers.specs.declared.input.Place.{Place}
 use borrow.Rule.Slice.PartMut.{putMid, postOf}
@@ -22,7 +23,8 @@ use Rattle.text.proofs.LineLaws.{front-behind}
 
 -- one more byte that goes to the front: it stands where it did, behind what has been put there
 pub front-more : (o : List ℕ) (at i : ℕ) → at + i < length o
-    → set (sets o 0 (take i (drop at o))) i (getD (sets o 0 (take i (drop at o))) (at + i) 0) ≡ sets o 0 (take (i + 1) (drop at o))
+    → set (sets o 0 (take i (drop at o))) i (getD (sets o 0 (take i (drop at o))) (at + i) 0)
+    ≡ sets o 0 (take (i + 1) (drop at o))
 front-more o at i h =
     let b = drop at o in
     let p = sets o 0 (take i b) in
@@ -36,7 +38,8 @@ front-more o at i h =
     let m : i < length b = simp length-drop (omega arith) in
     rw e (rw z at (store-turn o b 0 i 0 m))
 
-pub window-length : (p : Place) (i : List ℕ) → p .at ≤ p .end → p .end ≤ length i → length (windowOf p i) ≡ p .end - p .at
+pub window-length : (p : Place) (i : List ℕ) → p .at ≤ p .end → p .end ≤ length i
+    → length (windowOf p i) ≡ p .end - p .at
 unfolding windowOf
 window-length p i h l = length-take-le (p .end - p .at) (drop (p .at) i) (simp length-drop (omega arith))
 
@@ -49,7 +52,8 @@ window-left p p′ i a b h l e s t =
     let k : length (windowOf p i) ≡ length a + length b = ap length e ∙ length-append a b in
     let j : p .end - p .at ≡ length a + length b = sym n ∙ k in
     let m : p .end - (p .at + length a) ≡ length b = omega arith in
-    let d : drop (length a) (take (length a + length b) (drop (p .at) i)) ≡ take (length b) (drop (length a) (drop (p .at) i)) =
+    let d : drop (length a) (take (length a + length b) (drop (p .at) i))
+    ≡ take (length b) (drop (length a) (drop (p .at) i)) =
     drop-take (length a) (length b) (drop (p .at) i) (simp length-drop (omega arith)) in
     rw (s, t, m, ← drop-drop (length a) (p .at) i, ← d, ← j, e) (drop-at a b (length a) refl)
 
@@ -62,12 +66,14 @@ pub waits-few : (ended : Bool) (w : List ℕ) → ended ≡ false → length w <
 unfolding waitsOf
 waits-few ended w e h = rw (e, lt-ltb (length w) 2 h)
 
-pub waits-short : (ended : Bool) (w : List ℕ) (n : ℕ) → ended ≡ false → 2 ≤ length w → n ≡ runCheck w → eqb n 5 ≡ waitsOf ended w
+pub waits-short : (ended : Bool) (w : List ℕ) (n : ℕ) → ended ≡ false → 2 ≤ length w → n ≡ runCheck w
+    → eqb n 5 ≡ waitsOf ended w
 unfolding waitsOf
 waits-short ended w n e h g = rw (e, le-ltb (length w) 2 h, g)
 
 pub data Waits (ended : Bool) (w : List ℕ) : Type 0 where
-  waits : ended ≡ false → length w < 84 → waitsOf ended w ≡ true → (2 ≤ length w → runCheck w ≡ 0 → ⊥) → Waits ended w
+  waits : ended ≡ false → length w < bufferLength → waitsOf ended w ≡ true → (2 ≤ length w → runCheck w ≡ 0 → ⊥)
+      → Waits ended w
   ready : (ended ≡ true) ⊎ ((2 ≤ length w) × (runCheck w ≡ 5 → ⊥)) → waitsOf ended w ≡ false → Waits ended w
 
 pub waits-cases : (ended : Bool) (w : List ℕ) → Waits ended w
@@ -77,17 +83,26 @@ waits-cases false w = go (ltb (length w) 2) (eqb (runCheck w) 5) refl refl
   where
     go : (s t : Bool) → ltb (length w) 2 ≡ s → eqb (runCheck w) 5 ≡ t → Waits false w
     go true t d e = let h = ltb-true (length w) 2 d in waits refl (omega arith) (rw d) (λ l z. omega arith)
-    go false true d e = let h = eqb-true (runCheck w) 5 e in waits refl (short-ends w h) (rw (d, e)) (λ l z. omega arith)
+    go false true d e =
+        let h = eqb-true (runCheck w) 5 e in
+        let few = short-ends w h in
+        waits refl (omega arith) (rw (d, e)) (λ l z. omega arith)
     go false false d e = ready (inr (ltb-false (length w) 2 d, eqb-false (runCheck w) 5 e)) (rw (d, e))
 
 -- reading: the window goes to the front, what was read behind it
-pub refilled : (p : Place) (i i₁ v : List ℕ) (got : ℕ) → Within p → length i ≡ 65536
-    → i₁ ≡ sets i 0 (take (p .end - p .at) (drop (p .at) i)) → length i₁ ≡ length i → length v ≡ 65536 - (p .end - p .at) → got ≤ length v
-    → Refilled p i (record { ended = eqb got 0; at = 0; end = p .end - p .at + got; filled = p .filled; number = p .number })
+pub refilled : (p : Place) (i i₁ v : List ℕ) (got : ℕ) → Within p → length i ≡ bufferLength
+    → i₁ ≡ sets i 0 (take (p .end - p .at) (drop (p .at) i)) → length i₁ ≡ length i
+    → length v ≡ bufferLength - (p .end - p .at) → got ≤ length v
+    → Refilled p i
+    (record { ended = eqb got 0; at = 0; end = p .end - p .at + got; filled = p .filled; number = p .number })
     (putMid (p .end - p .at) (length i₁ - (p .end - p .at)) i₁ v)
 unfolding windowOf
 refilled p i i₁ v got h l e le lv g = record {
-  within = record { unread = omega arith; read = let a = h .unread in let b = h .read in omega arith; unwritten = h .unwritten };
+  within = record {
+    unread = omega arith;
+    read = let a = h .unread in let b = h .read in omega arith;
+    unwritten = h .unwritten;
+  };
   number = refl;
   filled = refl;
   got = take got v;
@@ -105,7 +120,8 @@ refilled p i i₁ v got h l e le lv g = record {
     lw = window-length p i (h .unread) (rw l (h .read))
 
     front-is : take n i₁ ≡ w
-    front-is = ap (take n) e ∙ ap (λ (k : ℕ). take k (sets i 0 w)) (sym lw) ∙ sets-front i w (omega (arith, lw, l, h .read))
+    front-is = ap (take n) e ∙ ap (λ (k : ℕ). take k (sets i 0 w)) (sym lw)
+        ∙ sets-front i w (omega (arith, lw, l, h .read))
 
     window : take (n + got - 0) (putMid n (length i₁ - n) i₁ v) ≡ w ++ take got v
     window =
@@ -114,7 +130,8 @@ refilled p i i₁ v got h l e le lv g = record {
         ∙ ap (λ (t : List ℕ). w ++ t) (take-append-le got v (postOf n (length i₁ - n) i₁) g))
 
 -- the record in front ends where the window does, or before
-pub front-fits : (p : Place) (i : List ℕ) {b : List ℕ} → length i ≡ 65536 → Within p → b ≡ frontOf (windowOf p i) → p .at + length b ≤ p .end
+pub front-fits : (p : Place) (i : List ℕ) {b : List ℕ} → length i ≡ bufferLength → Within p
+    → b ≡ frontOf (windowOf p i) → p .at + length b ≤ p .end
 front-fits p i {b} li h e =
     let w = windowOf p i in
     let n = window-length p i (h .unread) (rw li (h .read)) in
@@ -125,9 +142,10 @@ front-fits p i {b} li h e =
     omega arith
 
 -- a window that waits leaves room to read into
-pub read-room : (p : Place) (i : List ℕ) → length i ≡ 65536 → Within p → waitsOf (p .ended) (windowOf p i) ≡ true → p .end - p .at < 65536
+pub read-room : (p : Place) (i : List ℕ) → length i ≡ bufferLength → Within p
+    → waitsOf (p .ended) (windowOf p i) ≡ true → p .end - p .at < bufferLength
 read-room p i li h t = go (waits-cases (p .ended) (windowOf p i))
   where
-    go : Waits (p .ended) (windowOf p i) → p .end - p .at < 65536
+    go : Waits (p .ended) (windowOf p i) → p .end - p .at < bufferLength
     go (ready r f) = absurd (true-false (waitsOf (p .ended) (windowOf p i)) t f)
     go (waits n few l g) = let m = window-length p i (h .unread) (rw li (h .read)) in omega arith

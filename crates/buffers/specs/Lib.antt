@@ -1,3 +1,3 @@
 pub mod Room
 pub mod Place
-pub mod Places
+pub mod Progress

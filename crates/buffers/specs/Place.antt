@@ -1,4 +1,4 @@
--- Where the program stands in its two buffers of 65,536 bytes.
+-- Where the program stands in its two buffers.
 use mathlib.Core.Path.{_≡_}
 use mathlib.Core.Bool.{Bool, not, _&&_, _||_}
 use mathlib.Core.List.{List, _++_}
@@ -6,12 +6,13 @@ use Prim.Native.Nat.{ℕ, _-_, _≤_}
 use lib.ListN.{length, take, drop}
 use lib.Dec.{eqb, ltb}
 use Rattle.records.specs.Run.{runCheck}
+use Rattle.buffers.specs.Room.{bufferLength}
 use Rattle.buffers.specs.declared.input.Place.{Place}
 
 pub record Within (p : Place) : Type 0 where
   pub unread : p .at ≤ p .end
-  pub read : p .end ≤ 65536
-  pub unwritten : p .filled ≤ 65536
+  pub read : p .end ≤ bufferLength
+  pub unwritten : p .filled ≤ bufferLength
 
 -- the bytes read and not yet answered, and those answered and not yet written
 unfoldable pub windowOf : Place → List ℕ → List ℕ

@@ -2,15 +2,25 @@
 use mathlib.Core.Path.{_≡_}
 use mathlib.Core.Bool.{Bool, true}
 use mathlib.Core.Logic.{_⊎_}
-use Prim.Native.Nat.{ℕ}
+use Prim.Native.Nat.{ℕ, _-_}
 use lib.Dec.{eqb, leb}
 use Rattle.laws.specs.Upd.{ifb}
+use Rattle.rules.specs.Refusals.{fullRoom}
+use Rattle.text.specs.Lengths.{lineLength}
 
--- the program may go on before it writes: nothing is unwritten where it is going to wait, else a line of 449 bytes has room
+-- how many bytes each of the two buffers has
+abbrev pub bufferLength : ℕ
+bufferLength = 65536
+
+-- the most that one line takes: it shows what one event writes
+abbrev pub mostLine : ℕ
+mostLine = lineLength fullRoom
+
+-- the program may go on before it writes: nothing is unwritten where it is going to wait, else a line has room
 unfoldable pub roomFor : ℕ → Bool → Bool
-roomFor filled waiting = ifb waiting (eqb filled 0) (leb filled 65087)
+roomFor filled waiting = ifb waiting (eqb filled 0) (leb filled (bufferLength - mostLine))
 
--- how many of the unwritten bytes were written: none where the program may go on, else all, or none where the write failed
+-- how many of the unwritten bytes were written: none where the program may go on, else all, or none where it failed
 pub record Sent (filled : ℕ) (waiting : Bool) (sent : ℕ) : Type 0 where
   pub all : (sent ≡ filled) ⊎ (sent ≡ 0)
   pub unasked : roomFor filled waiting ≡ true → sent ≡ 0

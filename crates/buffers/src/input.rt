@@ -1,13 +1,14 @@
-// The input buffer of the program, inner to it: 65,536 bytes, of them those read and not yet answered; and where the program stands in both buffers.
+// The input buffer of the program, inner to it: its bytes read and not yet answered; where the program stands.
 ghost use mathlib.Core.Path.{_≡_};
 ghost use Prim.Native.Nat.{_+_, _-_, _<_, _≤_};
 ghost use lib.ListN.{length, take, drop};
 ghost use lib.Seq.{sets};
 ghost use Rattle.text.specs.Lines.{frontOf};
+ghost use Rattle.buffers.specs.Room.{bufferLength};
 ghost use Rattle.buffers.specs.Place.{Within, windowOf, waitsOf, Refilled};
 
-// Of the input buffer the bytes from `at` to `end` are still to be answered, of the output buffer the first `filled` still to be
-// written. `ended` says that the input has no more, `number` how many records were answered.
+// Of the input buffer the bytes from `at` to `end` are still to be answered, of the output buffer the first `filled`
+// still to be written. `ended` says that the input has no more, `number` how many records were answered.
 pub struct Place {
     pub ended: bool,
     pub at: usize,
@@ -39,7 +40,7 @@ fn read_some(part: &mut [u8]) -> usize
 
 // What is still to be answered goes to the front of the buffer, and what the input has now behind it.
 pub fn refill(p: Place, input: &mut [u8]) -> Place
-    requires { ⌜ Within p × (length (now input) ≡ 65536) × (p .end - p .at < 65536) ⌝ }
+    requires { ⌜ Within p × (length (now input) ≡ bufferLength) × (p .end - p .at < bufferLength) ⌝ }
     ensures { λ r. ⌜ Refilled p (now (input .entry)) r (now (input .exit)) ⌝ }
 {
     let n = p.end - p.at;
@@ -56,7 +57,7 @@ pub fn refill(p: Place, input: &mut [u8]) -> Place
 
 // Whether more input can change what stands in front.
 pub fn waits(p: Place, input: &[u8]) -> bool
-    requires { ⌜ Within p × (length (now input) ≡ 65536) ⌝ }
+    requires { ⌜ Within p × (length (now input) ≡ bufferLength) ⌝ }
     ensures { λ r. ⌜ r ≡ waitsOf (p .ended) (windowOf p (now (input .entry))) ⌝ }
 {
     if p.ended {

@@ -2,10 +2,10 @@
 use crate::input::Place;
 use crate::output::make_room;
 ghost use mathlib.Core.Path.{_≡_};
-ghost use Prim.Native.Nat.{_+_, _<_, _≤_, _^_};
+ghost use Prim.Native.Nat.{_≤_};
 ghost use lib.ListN.{length};
 ghost use Rattle.laws.specs.Upd.{ifb};
-ghost use Rattle.buffers.specs.Places.{Emptied, Told};
+ghost use Rattle.buffers.specs.Progress.{Emptied, LineFits, Told};
 use step::answers::Answer;
 
 // What is unwritten is written before the program waits, and where a line could have no room.
@@ -40,8 +40,7 @@ pub fn told(
     output: &mut [u8],
     traced: bool,
 ) -> Place
-    requires { ⌜ (p .at + taken ≤ 65536) × (p .filled + 449 ≤ 65536) × (p .number + 1 < 2 ^ 64) × (length (now output) ≡ 65536) × (a .written ≤ 182)
-        × (length (now out) ≡ 182) ⌝ }
+    requires { ⌜ LineFits p taken a (now out) (now output) ⌝ }
     ensures { λ r. ⌜ Told traced p taken a view (now (out .entry)) (now (output .entry)) r (now (output .exit)) ⌝ }
 {
     let n = shown(traced, a.written);

@@ -1,9 +1,9 @@
--- What each function of a turn shows, over plain values: the text that is due stays due.
+-- For the module turning: what each function of a turn shows, over plain values: the text that is due stays due.
 use mathlib.Core.Path.{_≡_, refl, sym, ap, _∙_}
 use mathlib.Core.Bool.{Bool, true, false}
 use mathlib.Core.Logic.{_⊎_, inl, inr, ⊎-elim}
 use mathlib.Core.List.{List, [], _++_, append-nil, append-assoc}
-use Prim.Native.Nat.{ℕ, _+_, _-_, _≤_, _<_, _^_}
+use Prim.Native.Nat.{ℕ, _+_, _-_, _≤_, _<_}
 use native.Mathlib.Omega.{arith}
 use native.Mathlib.Nat.{pos-of-ne-zero}
 use lib.ListN.{length, take, drop, length-take, drop-of-length-le}
@@ -15,14 +15,15 @@ use Rattle.records.specs.Run.{runCheck}
 use Rattle.row.specs.Row.{stateOf}
 use Rattle.text.specs.Lines.{frontOf, behindOf, answerFor, lineFor}
 use Rattle.feed.specs.Held.{Sound}
+use Rattle.feed.specs.TurnReady.{TurnReady}
 use Rattle.buffers.specs.Place.{Within, windowOf, unwrittenOf, waitsOf, Refilled}
-use Rattle.buffers.specs.Room.{roomFor, Sent}
+use Rattle.buffers.specs.Room.{bufferLength, roomFor, Sent}
 use Rattle.feed.specs.Answered.{Answered}
-use Rattle.buffers.specs.Places.{sentFrom, Emptied}
-use Rattle.buffers.proofs.Standing.{sent-few}
-use Rattle.feed.specs.Turn.{Acts, Turns}
+use Rattle.buffers.specs.Progress.{sentFrom, Emptied}
+use Rattle.buffers.proofs.ProgressLaws.{sent-few}
+use Rattle.feed.specs.Turn.{Advances, Turns}
 use Rattle.buffers.specs.declared.input.Place.{Place}
-use Rattle.feed.specs.declared.answering.Acted.{Acted}
+use Rattle.feed.specs.declared.answering.Advanced.{Advanced}
 use Rattle.records.proofs.RunLaws.{Front, nothing, other, short, whole, front}
 use Rattle.records.proofs.Growing.{whole-long}
 use Rattle.text.proofs.LineLaws.{front-behind, lines-nil, Decided, entire, last, marked, decided-text}
@@ -39,10 +40,10 @@ unwaited ended w e h t = go (waits-cases ended w)
 
 module _ (traced : Bool) {ws : List ℕ} (p : Place) (i o : List ℕ) (sound : Sound ws) (in-place : Within p) where
   -- more of the input
-  pub acts-read : {i′ : List ℕ} {r : Place} → waitsOf (p .ended) (windowOf p i) ≡ true → Refilled p i r i′
-      → Acts traced ws p i o (record { more = true; place = r }) ws i′ o
+  pub advances-read : {i′ : List ℕ} {r : Place} → waitsOf (p .ended) (windowOf p i) ≡ true → Refilled p i r i′
+      → Advances traced ws p i o (record { more = true; place = r }) ws i′ o
   unfolding unwrittenOf
-  acts-read {i′} {r} t h = record {
+  advances-read {i′} {r} t h = record {
     within = h .within;
     sound = sound;
     keeps = record {
@@ -70,9 +71,9 @@ module _ (traced : Bool) {ws : List ℕ} (p : Place) (i o : List ℕ) (sound : S
       some false e = inl (pos-of-ne-zero (eqb-false (length (h .got)) 0 e))
 
   -- nothing is left, and nothing comes
-  pub acts-stop : waitsOf (p .ended) (windowOf p i) ≡ false → length (windowOf p i) ≡ 0
-      → Acts traced ws p i o (record { more = false; place = p }) ws i o
-  acts-stop t h = record {
+  pub advances-stop : waitsOf (p .ended) (windowOf p i) ≡ false → length (windowOf p i) ≡ 0
+      → Advances traced ws p i o (record { more = false; place = p }) ws i o
+  advances-stop t h = record {
     within = in-place;
     sound = sound;
     keeps = record {
@@ -98,10 +99,15 @@ module _ (traced : Bool) {ws : List ℕ} (p : Place) (i o : List ℕ) (sound : S
           go (ready (inr e) f) = absurd (omega (arith, e .0))
 
   -- the record in front
-  pub acts-answer : {ws′ o′ : List ℕ} {r : Acted} → length i ≡ 65536 → waitsOf (p .ended) (windowOf p i) ≡ false → 0 < length (windowOf p i)
-      → Answered traced ws p (frontOf (windowOf p i)) o r ws′ o′ → Acts traced ws p i o r ws′ i o′
-  acts-answer {ws′} {o′} {r} li t h a = record {
-    within = record { unread = omega (arith, a .at, a .end, l); read = omega (arith, a .end, in-place .read); unwritten = a .filled };
+  pub advances-answer : {ws′ o′ : List ℕ} {r : Advanced} → length i ≡ bufferLength
+      → waitsOf (p .ended) (windowOf p i) ≡ false → 0 < length (windowOf p i)
+      → Answered traced ws p (frontOf (windowOf p i)) o r ws′ o′ → Advances traced ws p i o r ws′ i o′
+  advances-answer {ws′} {o′} {r} li t h a = record {
+    within = record {
+      unread = omega (arith, a .at, a .end, l);
+      read = omega (arith, a .end, in-place .read);
+      unwritten = a .filled;
+    };
     sound = a .sound;
     keeps = record {
       got = [];
@@ -124,8 +130,8 @@ module _ (traced : Bool) {ws : List ℕ} (p : Place) (i o : List ℕ) (sound : S
       l = front-fits p i li in-place refl
 
       left : windowOf (r .place) i ≡ behindOf v
-      left = window-left p (r .place) i (frontOf v) (behindOf v) (in-place .unread) (rw li (in-place .read)) (sym (front-behind v))
-          (a .at) (a .end)
+      left = window-left p (r .place) i (frontOf v) (behindOf v) (in-place .unread) (rw li (in-place .read))
+          (sym (front-behind v)) (a .at) (a .end)
 
       decided : (f : List ℕ) → (r .place .ended ≡ true → f ≡ []) → Decided v f
       decided f z = go (waits-cases (p .ended) v)
@@ -141,20 +147,31 @@ module _ (traced : Bool) {ws : List ℕ} (p : Place) (i o : List ℕ) (sound : S
           go (ready (inl d) f) = last (z (a .ended ∙ d))
           go (ready (inr d) f) = by-front (d .0) (d .1) (front v)
 
--- the place after a write is within the buffers, and its window is the same
-pub sent-within : {p q : Place} {waiting : Bool} (i : List ℕ) → Within p → Emptied p waiting q
-    → Within q × (waitsOf (p .ended) (windowOf p i) ≡ waitsOf (q .ended) (windowOf q i)) × (p .number + 1 < 2 ^ 64 → q .number + 1 < 2 ^ 64)
+-- after a write a turn is as ready as before, and its window is the same
+pub sent-ready : {ws : List ℕ} {p q : Place} {waiting : Bool} (i o : List ℕ) → TurnReady ws p i o
+    → Emptied p waiting q
+    → TurnReady ws q i o × (waitsOf (p .ended) (windowOf p i) ≡ waitsOf (q .ended) (windowOf q i))
 unfolding windowOf
-sent-within {p} {q} {waiting} i w h = go (p .filled - q .filled) (h .place)
+sent-ready {ws} {p} {q} i o r h = go (p .filled - q .filled) (h .place)
   where
+    w : Within p
+    w = r .within
+
     go : (sent : ℕ) → q ≡ sentFrom p sent
-        → Within q × (waitsOf (p .ended) (windowOf p i) ≡ waitsOf (q .ended) (windowOf q i)) × (p .number + 1 < 2 ^ 64 → q .number + 1 < 2 ^ 64)
-    go sent e = rw e (record { unread = w .unread; read = w .read; unwritten = omega (arith, w .unwritten) }, refl, λ z. z)
+        → TurnReady ws q i o × (waitsOf (p .ended) (windowOf p i) ≡ waitsOf (q .ended) (windowOf q i))
+    go sent e = rw e (
+      record {
+        lent = r .lent;
+        within = record { unread = w .unread; read = w .read; unwritten = omega (arith, w .unwritten) };
+        number = r .number;
+      },
+      refl,
+    )
 
 pub left-few : {p q : Place} {waiting : Bool} → Emptied p waiting q → q .filled ≤ p .filled
 left-few {p} {q} h = let e = ap (λ (x : Place). x .filled) (h .place) in omega arith
 
-module _ (p q : Place) (o : List ℕ) (sent : ℕ) (in-place : Within p) (lo : length o ≡ 65536)
+module _ (p q : Place) (o : List ℕ) (sent : ℕ) (in-place : Within p) (lo : length o ≡ bufferLength)
     {waiting : Bool} (given : Sent (p .filled) waiting sent) (place : q ≡ sentFrom p sent) where
   unsent : drop sent (unwrittenOf p o) ≡ unwrittenOf (sentFrom p sent) o
   unfolding unwrittenOf
@@ -173,8 +190,9 @@ module _ (p q : Place) (o : List ℕ) (sent : ℕ) (in-place : Within p) (lo : l
   unfolding unwrittenOf
   unwritten-length = length-take-le (p .filled) o (rw lo (in-place .unwritten))
 
-  pub turns-on : (traced : Bool) {ws : List ℕ} (i : List ℕ) {i′ o′ ws′ : List ℕ} {r : Acted} → waiting ≡ waitsOf (p .ended) (windowOf p i)
-      → roomFor (q .filled) waiting ≡ true → Acts traced ws q i o r ws′ i′ o′
+  pub turns-on : (traced : Bool) {ws : List ℕ} (i : List ℕ) {i′ o′ ws′ : List ℕ} {r : Advanced}
+      → waiting ≡ waitsOf (p .ended) (windowOf p i)
+      → roomFor (q .filled) waiting ≡ true → Advances traced ws q i o r ws′ i′ o′
       → Turns traced ws p i o (record { more = r .more; failed = false; sent = sent; place = r .place }) ws′ i′ o′
   unfolding windowOf unwrittenOf
   turns-on traced i e room a = record {
@@ -191,10 +209,15 @@ module _ (p q : Place) (o : List ℕ) (sent : ℕ) (in-place : Within p) (lo : l
       none : waitsOf (p .ended) (take (p .end - p .at) (drop (p .at) i)) ≡ true → take (p .filled - sent) o ≡ []
       none t = nothing-due o (p .filled - sent) (room-none (p .filled - sent) waiting (rw place at room) (e ∙ t))
 
-  pub turns-failed : (traced : Bool) {ws : List ℕ} (i : List ℕ) → waiting ≡ waitsOf (p .ended) (windowOf p i) → Sound ws → (roomFor (q .filled) waiting ≡ true → ⊥)
+  pub turns-failed : (traced : Bool) {ws : List ℕ} (i : List ℕ) → waiting ≡ waitsOf (p .ended) (windowOf p i)
+      → Sound ws → (roomFor (q .filled) waiting ≡ true → ⊥)
       → Turns traced ws p i o (record { more = true; failed = true; sent = sent; place = q }) ws i o
   turns-failed traced i e sound room = record {
-    within = rw place (record { unread = in-place .unread; read = in-place .read; unwritten = omega (arith, in-place .unwritten) });
+    within = rw place (record {
+      unread = in-place .unread;
+      read = in-place .read;
+      unwritten = omega (arith, in-place .unwritten);
+    });
     sound = sound;
     number = rw place (omega arith);
     sent = omega (arith, unwritten-length, sent-few given);

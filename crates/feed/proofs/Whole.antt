@@ -1,4 +1,4 @@
--- Turns that each keep the text that is due make up the whole text.
+-- For the root of the crate: turns that each keep the text that is due make up the whole text.
 use mathlib.Core.Path.{_≡_, refl, sym, ap, _∙_}
 use mathlib.Core.Bool.{Bool, true, false}
 use mathlib.Core.List.{List, [], _∷_, _++_, append-nil, append-assoc}
@@ -25,7 +25,8 @@ regroup : (o t r p x : List ℕ) → o ++ ((t ++ r) ++ (p ++ x)) ≡ (o ++ t) ++
 regroup o t r p x = simp append-assoc
 
 -- whatever comes later, what was written and what is due are the text for the input
-pub run-text : {traced more : Bool} {n : ℕ} {ws input output : List ℕ} {b : Stand} → Run traced ws n input output more b
+run-text : {traced more : Bool} {n : ℕ} {ws input output : List ℕ} {b : Stand}
+    → Run traced ws n input output more b
     → (f : List ℕ) → (b .ended ≡ true → f ≡ [])
     → linesOf traced (stateOf ws) 0 (input ++ f) ≡ output ++ due traced more b f
 run-text begun f e = refl
@@ -41,8 +42,9 @@ run-text {traced} {ws = ws} (turned {n} {input} {output} {a} sent {more} {b} r k
     later : a .ended ≡ true → k .got ++ f ≡ []
     later h = let z = k .end h in rw (z .1, e (z .0))
 
--- where the program stops, what was written and what is unwritten are the whole text for the input, whatever of it is unread
-pub whole-text : {traced : Bool} {office n : ℕ} {ws input output : List ℕ} {b : Stand} → StateMade office true ws → Run traced ws n input output false b
+-- where the program stops, what was written and what is unwritten are the whole text, whatever of the input is unread
+pub whole-text : {traced : Bool} {office n : ℕ} {ws input output : List ℕ} {b : Stand} → StateMade office true ws
+    → Run traced ws n input output false b
     → (f : List ℕ) → (b .ended ≡ true → f ≡ []) → textOf traced (office ∷ (input ++ f)) ≡ output ++ b .unwritten
 whole-text {traced} {office} {ws} {input} {output} {b} m r f e =
     m .text traced (input ++ f) ∙ run-text r f e ∙ rw (append-nil (b .unwritten))
@@ -66,18 +68,21 @@ left-cases true false left left′ e = inl (refl, refl, e)
 left-cases true true left left′ e = inr (λ h. true-false true refl (h .1), e)
 left-cases false failed left left′ e = inr (λ h. true-false false (h .0) refl, e)
 
-pub left-less : (more failed : Bool) (left left′ : ℕ) → 0 < left → left′ ≡ ifb more (ifb failed 0 (left - 1)) 0 → left′ < left
+pub left-less : (more failed : Bool) (left left′ : ℕ) → 0 < left → left′ ≡ ifb more (ifb failed 0 (left - 1)) 0
+    → left′ < left
 left-less more failed left left′ h e =
     ⊎-elim (λ z. omega (arith, z .2)) (λ z. omega (arith, z .1)) (left-cases more failed left left′ e)
 
-pub ran-turned : {traced more failed : Bool} {ws₀ ws ws′ : List ℕ} {p : Place} {i o i′ o′ : List ℕ} {left left′ : ℕ} {r : Turned}
+pub ran-turned : {traced more failed : Bool} {ws₀ ws ws′ : List ℕ} {p : Place} {i o i′ o′ : List ℕ}
+    {left left′ : ℕ} {r : Turned}
     → Ran traced ws₀ ws p i o more failed left → 0 < left → Turns traced ws p i o r ws′ i′ o′
     → left′ ≡ ifb (r .more) (ifb (r .failed) 0 (left - 1)) 0
     → Ran traced ws₀ ws′ (r .place) i′ o′ (r .more) (r .failed) left′
 ran-turned {traced} {more} {failed} {ws₀} {ws} {ws′} {p} {i} {o} {i′} {o′} {left} {left′} {r} a h t e = record {
   sound = t .sound;
   within = t .within;
-  number = ⊎-elim (λ z. omega (arith, z .2, t .number, a .number)) (λ z. omega (arith, z .1, t .number, a .number)) cases;
+  number = ⊎-elim (λ z. omega (arith, z .2, t .number, a .number))
+      (λ z. omega (arith, z .1, t .number, a .number)) cases;
   reached = λ f.
       let g = a .going h in
       let b = a .reached (g .1) in
@@ -91,5 +96,6 @@ ran-turned {traced} {more} {failed} {ws₀} {ws} {ws′} {p} {i} {o} {i′} {o�
   going = λ l. ⊎-elim (λ z. (z .0, z .1)) (λ z. absurd (omega (arith, z .1))) cases;
 }
   where
-    cases : ((r .more ≡ true) × (r .failed ≡ false) × (left′ ≡ left - 1)) ⊎ (((r .more ≡ true) × (r .failed ≡ false) → ⊥) × (left′ ≡ 0))
+    cases : ((r .more ≡ true) × (r .failed ≡ false) × (left′ ≡ left - 1))
+        ⊎ (((r .more ≡ true) × (r .failed ≡ false) → ⊥) × (left′ ≡ 0))
     cases = left-cases (r .more) (r .failed) left left′ e

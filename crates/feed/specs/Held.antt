@@ -15,7 +15,7 @@ pub record Sound (ws : List ℕ) : Type 0 where
   pub well : wellFormed (stateOf ws) ≡ true
 
 -- the step on the state that a row holds: the answer, the state and the bytes are the result's
-pub record Handed (q : Result) (o : List ℕ) (refusal written : ℕ) (ws′ o′ : List ℕ) : Type 0 where
+pub record HeldStep (q : Result) (o : List ℕ) (refusal written : ℕ) (ws′ o′ : List ℕ) : Type 0 where
   pub same-refusal : refusal ≡ q .refusal
   pub same-written : written ≡ size (q .written)
   pub sound : Sound ws′
@@ -25,4 +25,5 @@ pub record Handed (q : Result) (o : List ℕ) (refusal written : ℕ) (ws′ o�
 -- the first byte of the input makes a state, or else the one line is due
 pub record StateMade (office : ℕ) (made : Bool) (ws′ : List ℕ) : Type 0 where
   pub sound : made ≡ true → Sound ws′
-  pub text : (traced : Bool) (f : List ℕ) → textOf traced (office ∷ f) ≡ ifb made (linesOf traced (stateOf ws′) 0 f) noOffice
+  pub text : (traced : Bool) (f : List ℕ)
+      → textOf traced (office ∷ f) ≡ ifb made (linesOf traced (stateOf ws′) 0 f) noOffice

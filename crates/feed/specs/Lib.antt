@@ -1,4 +1,5 @@
-pub mod Whole
 pub mod Held
+pub mod TurnReady
 pub mod Answered
 pub mod Turn
+pub mod Whole

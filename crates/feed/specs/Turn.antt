@@ -13,14 +13,14 @@ use Rattle.feed.specs.Held.{Sound}
 use Rattle.buffers.specs.Place.{Within, windowOf, unwrittenOf, waitsOf}
 use Rattle.buffers.specs.declared.input.Place.{Place}
 use Rattle.buffers.specs.Room.{roomFor}
-use Rattle.feed.specs.declared.answering.Acted.{Acted}
+use Rattle.feed.specs.declared.answering.Advanced.{Advanced}
 use Rattle.feed.specs.declared.turning.Turned.{Turned}
 
--- The text that is due stays due. `got` was read, `printed` was put behind what is unwritten. The text for what was read and for all
--- later bytes f, of which there are none once the input has ended, is what was printed and the text for the rest; where the program
--- stops, nothing more is due.
-pub record Keeps (traced : Bool) (ws : List ℕ) (ended : Bool) (n : ℕ) (w u : List ℕ) (more : Bool) (ws′ : List ℕ) (ended′ : Bool) (n′ : ℕ)
-    (w′ u′ : List ℕ) : Type 0 where
+-- The text that is due stays due. `got` was read, `printed` was put behind what is unwritten. The text for what was
+-- read and for all later bytes f, of which there are none once the input has ended, is what was printed and the text
+-- for the rest; where the program stops, nothing more is due.
+pub record Keeps (traced : Bool) (ws : List ℕ) (ended : Bool) (n : ℕ) (w u : List ℕ) (more : Bool)
+    (ws′ : List ℕ) (ended′ : Bool) (n′ : ℕ) (w′ u′ : List ℕ) : Type 0 where
   pub got : List ℕ
   pub printed : List ℕ
   pub buffer : u′ ≡ u ++ printed
@@ -36,14 +36,16 @@ pub record Keeps (traced : Bool) (ws : List ℕ) (ended : Bool) (n : ℕ) (w u :
   -- where nothing is left, the program stops
   pub stops : ended ≡ true → length w ≡ 0 → more ≡ false
 
-pub record Acts (traced : Bool) (ws : List ℕ) (p : Place) (i o : List ℕ) (r : Acted) (ws′ i′ o′ : List ℕ) : Type 0 where
+pub record Advances (traced : Bool) (ws : List ℕ) (p : Place) (i o : List ℕ) (r : Advanced)
+    (ws′ i′ o′ : List ℕ) : Type 0 where
   pub within : Within (r .place)
   pub sound : Sound ws′
   pub keeps : Keeps traced ws (p .ended) (p .number) (windowOf p i) (unwrittenOf p o) (r .more) ws′
       (r .place .ended) (r .place .number) (windowOf (r .place) i′) (unwrittenOf (r .place) o′)
 
--- A turn writes the first bytes of what is unwritten, as many as were sent, and acts on the rest. It fails only where a write does.
-pub record Turns (traced : Bool) (ws : List ℕ) (p : Place) (i o : List ℕ) (r : Turned) (ws′ i′ o′ : List ℕ) : Type 0 where
+-- A turn writes the first `sent` bytes of what is unwritten, then advances. It fails only where a write does.
+pub record Turns (traced : Bool) (ws : List ℕ) (p : Place) (i o : List ℕ) (r : Turned)
+    (ws′ i′ o′ : List ℕ) : Type 0 where
   pub within : Within (r .place)
   pub sound : Sound ws′
   pub number : r .place .number ≤ p .number + 1

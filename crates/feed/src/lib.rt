@@ -1,5 +1,5 @@
 // The program: the records of standard input through the step, a line on standard output for each.
-use answering::held::make;
+use answering::held::make_state;
 use buffers::input::Place;
 use buffers::output::due;
 use buffers::output::flush;
@@ -9,10 +9,12 @@ ghost use Prim.Native.Nat.{_-_, _<_, _≤_};
 ghost use lib.ListN.{length};
 ghost use Rattle.laws.specs.Upd.{ifb};
 ghost use Rattle.text.specs.Lines.{noOffice};
-ghost use Rattle.feed.specs.Held.{Sound};
+ghost use Rattle.feed.specs.TurnReady.{Lent};
 ghost use Rattle.feed.specs.Whole.{Ran};
 
+// a record answered: the state that the program holds, and the line behind what is unwritten
 mod answering;
+// a turn: what is due is written, then more is read or a record answered
 mod turning;
 
 // Where the turns end: `more` where they ran out.
@@ -22,7 +24,7 @@ struct Ended {
     place: Place,
 }
 
-// A loop has to end, and nothing says that the input does: so the turns are counted down from a number that no run uses up.
+// A loop has to end, and nothing says that the input does: turns are counted down from a number that no run uses up.
 fn turns_left(more: bool, failed: bool, turns: u64) -> u64
     requires { ⌜ 0 < turns ⌝ }
     ensures { λ r. ⌜ r ≡ ifb more (ifb failed 0 (turns - 1)) 0 ⌝ }
@@ -36,8 +38,9 @@ fn turns_left(more: bool, failed: bool, turns: u64) -> u64
 
 // Turn after turn, until the input has ended, a record is refused by 4 or 5, or a write fails.
 fn turns(state: &mut [u32], input: &mut [u8], output: &mut [u8], traced: bool) -> Ended
-    requires { ⌜ Sound (now state) × (length (now input) ≡ 65536) × (length (now output) ≡ 65536) ⌝ }
-    ensures { λ r. ⌜ Ran traced (now (state .entry)) (now (state .exit)) (r .place) (now (input .exit)) (now (output .exit)) (r .more) (r .failed) 0 ⌝ }
+    requires { ⌜ Lent (now state) (now input) (now output) ⌝ }
+    ensures { λ r. ⌜ Ran traced (now (state .entry)) (now (state .exit)) (r .place) (now (input .exit))
+        (now (output .exit)) (r .more) (r .failed) 0 ⌝ }
 {
     let mut place = Place {
         ended: false,
@@ -79,7 +82,7 @@ fn finish(output: &[u8], filled: usize, failed: bool)
 }
 
 fn serve(state: &mut [u32], input: &mut [u8], output: &mut [u8], traced: bool)
-    requires { ⌜ Sound (now state) × (length (now input) ≡ 65536) × (length (now output) ≡ 65536) ⌝ }
+    requires { ⌜ Lent (now state) (now input) (now output) ⌝ }
 {
     let e = turns(state, input, output, traced);
     let place = e.place;
@@ -105,8 +108,8 @@ fn office() -> u8 {
 
 // The program; `traced` has the bytes written behind each line.
 pub fn run(traced: bool) {
-    let mut state = [0u32; 425];
-    if !make(office(), &mut state) {
+    let mut state = [0u32; step::WORDS];
+    if !make_state(office(), &mut state) {
         if !io::write_all(1, &no_office()) {
             complain();
         }

@@ -1,5 +1,5 @@
-// A turn, inner to the program: what is unwritten is written where that is due, then more is read or the record in front is answered.
-use crate::answering::Acted;
+// A turn, inner to the program: what is unwritten is written where that is due, then input is read or answered.
+use crate::answering::Advanced;
 use crate::answering::answer;
 use buffers::input::Place;
 use buffers::input::refill;
@@ -8,12 +8,10 @@ use buffers::output::has_room;
 use buffers::progress::emptied;
 ghost use mathlib.Core.Path.{_≡_};
 ghost use mathlib.Core.Bool.{true};
-ghost use Prim.Native.Nat.{_+_, _<_, _^_};
-ghost use lib.ListN.{length};
-ghost use Rattle.buffers.specs.Place.{Within, windowOf, waitsOf};
+ghost use Rattle.buffers.specs.Place.{windowOf, waitsOf};
 ghost use Rattle.buffers.specs.Room.{roomFor};
-ghost use Rattle.feed.specs.Held.{Sound};
-ghost use Rattle.feed.specs.Turn.{Acts, Turns};
+ghost use Rattle.feed.specs.TurnReady.{TurnReady};
+ghost use Rattle.feed.specs.Turn.{Advances, Turns};
 
 // `sent` of the unwritten bytes were written; `failed` says that the others could not be.
 pub struct Turned {
@@ -23,28 +21,28 @@ pub struct Turned {
     pub place: Place,
 }
 
-// More of the input where that can change what stands in front; else the record in front; nothing where the input has ended.
-fn act(
+// More of the input where that can change what stands in front; else the record in front; nothing at the input's end.
+fn advance(
     state: &mut [u32],
     p: Place,
     input: &mut [u8],
     output: &mut [u8],
     waiting: bool,
     traced: bool,
-) -> Acted
-    requires { ⌜ Sound (now state) × Within p × (waiting ≡ waitsOf (p .ended) (windowOf p (now input))) × (roomFor (p .filled) waiting ≡ true)
-        × (length (now input) ≡ 65536) × (length (now output) ≡ 65536) × (p .number + 1 < 2 ^ 64) ⌝ }
-    ensures { λ r. ⌜ Acts traced (now (state .entry)) p (now (input .entry)) (now (output .entry)) r
+) -> Advanced
+    requires { ⌜ TurnReady (now state) p (now input) (now output)
+        × (waiting ≡ waitsOf (p .ended) (windowOf p (now input))) × (roomFor (p .filled) waiting ≡ true) ⌝ }
+    ensures { λ r. ⌜ Advances traced (now (state .entry)) p (now (input .entry)) (now (output .entry)) r
         (now (state .exit)) (now (input .exit)) (now (output .exit)) ⌝ }
 {
     if waiting {
-        return Acted {
+        return Advanced {
             more: true,
             place: refill(p, input),
         };
     }
     if p.at == p.end {
-        return Acted {
+        return Advanced {
             more: false,
             place: p,
         };
@@ -59,7 +57,7 @@ pub fn turn(
     output: &mut [u8],
     traced: bool,
 ) -> Turned
-    requires { ⌜ Sound (now state) × Within p × (length (now input) ≡ 65536) × (length (now output) ≡ 65536) × (p .number + 1 < 2 ^ 64) ⌝ }
+    requires { ⌜ TurnReady (now state) p (now input) (now output) ⌝ }
     ensures { λ r. ⌜ Turns traced (now (state .entry)) p (now (input .entry)) (now (output .entry)) r
         (now (state .exit)) (now (input .exit)) (now (output .exit)) ⌝ }
 {
@@ -67,10 +65,10 @@ pub fn turn(
     let q = emptied(p, output, waiting);
     let sent = p.filled - q.filled;
     if has_room(q.filled, waiting) {
-        let acted = act(state, q, input, output, waiting, traced);
-        let next = acted.place;
+        let advanced = advance(state, q, input, output, waiting, traced);
+        let next = advanced.place;
         Turned {
-            more: acted.more,
+            more: advanced.more,
             failed: false,
             sent,
             place: next,

@@ -1,3 +1,4 @@
+// The program of document 01: a line for each record.
 fn main() {
     feed::run(false);
 }

@@ -12,6 +12,7 @@ mod making;
 mod refusals;
 
 pub use answers::Answer;
+pub use checks::ROOM;
 pub use making::fresh;
 pub use row::WORDS;
 

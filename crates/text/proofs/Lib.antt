@@ -1,5 +1,9 @@
-pub mod Puts
-pub mod Numbers
-pub mod DigitPuts
+-- digits
+mod Decimals
+mod DigitPuts
+-- the crate's root: the parts of a line
+mod Puts
+-- lines
 pub mod LineLaws
+-- the example of document 01
 pub mod Example

@@ -1,4 +1,4 @@
--- Laws of the lines: more than enough records change nothing, and the text for an input is that of its first record, then of the rest.
+-- For the module lines: more than enough records change nothing; a text is its first line, then that of the rest.
 use mathlib.Core.Path.{_≡_, refl, sym, ap, _∙_}
 use mathlib.Core.Bool.{Bool, true, false}
 use mathlib.Core.List.{List, [], _∷_, _++_, append-nil}
@@ -14,7 +14,7 @@ use Rattle.records.proofs.RunLaws.{Front, nothing, other, short, whole, front, 
 use Rattle.records.proofs.Growing.{whole-stays, other-stays, other-check}
 use Rattle.records.specs.Layout.{checkOf}
 use Rattle.rules.specs.State.{State}
-use Rattle.rules.specs.Refusals.{wellFormed, unreadable, refused, madeOf, stepOf}
+use Rattle.rules.specs.Refusals.{fullRoom, wellFormed, unreadable, refused, madeOf, stepOf}
 use Rattle.text.specs.Lines.{frontOf, behindOf, answerFor, lineFor, goesOn, linesIn, linesOf, noOffice, textOf}
 
 module _ (b : List ℕ) where
@@ -43,7 +43,7 @@ module _ (b : List ℕ) where
       go true e = let z = eqb-true (runCheck b) 0 e in rw (front-first z, behind-rest z) (first-rest b)
       go false e = let z = eqb-false (runCheck b) 0 e in rw (front-all z, behind-none z) (append-nil b)
 
-  pub behind-shorter : 0 < length b → length (behindOf b) < length b
+  behind-shorter : 0 < length b → length (behindOf b) < length b
   behind-shorter h = go (front b)
     where
       none : (runCheck b ≡ 0 → ⊥) → length (behindOf b) < length b
@@ -62,7 +62,8 @@ module _ (traced : Bool) where
   lines-none (suc k) s n b h = rw (eq-eqb (length b) 0 h)
 
   -- any number of records that is enough
-  enough : (k j : ℕ) (s : State) (n : ℕ) (b : List ℕ) → length b ≤ k → length b ≤ j → linesIn k traced s n b ≡ linesIn j traced s n b
+  enough : (k j : ℕ) (s : State) (n : ℕ) (b : List ℕ) → length b ≤ k → length b ≤ j
+      → linesIn k traced s n b ≡ linesIn j traced s n b
   unfolding linesIn
   enough zero j s n b h l = sym (lines-none j s n b (omega arith))
   enough (suc k) zero s n b h l = lines-none (suc k) s n b (omega arith)
@@ -70,7 +71,8 @@ module _ (traced : Bool) where
       enough k j (answerFor s b .state) (n + 1) (behindOf b) (omega arith) (omega arith))
     where
       go : (t : Bool) → eqb (length b) 0 ≡ t
-          → (0 < length b → linesIn k traced (answerFor s b .state) (n + 1) (behindOf b) ≡ linesIn j traced (answerFor s b .state) (n + 1) (behindOf b))
+          → (0 < length b → linesIn k traced (answerFor s b .state) (n + 1) (behindOf b)
+          ≡ linesIn j traced (answerFor s b .state) (n + 1) (behindOf b))
           → linesIn (suc k) traced s n b ≡ linesIn (suc j) traced s n b
       go true e ih = rw e
       go false e ih = rw (e, ih (pos-of-ne-zero (eqb-false (length b) 0 e)))
@@ -87,7 +89,7 @@ module _ (traced : Bool) where
   one-more k s n b h = rw (ne-eqb (length b) 0 (λ z. omega arith))
 
   -- the first record's line, then the rest where the program goes on
-  pub lines-first : (s : State) (n : ℕ) (b : List ℕ) → 0 < length b
+  lines-first : (s : State) (n : ℕ) (b : List ℕ) → 0 < length b
       → linesOf traced s n b
       ≡ lineFor traced (n + 1) (answerFor s b)
       ++ ifb (goesOn (answerFor s b .refusal)) (linesOf traced (answerFor s b .state) (n + 1) (behindOf b)) []
@@ -107,7 +109,8 @@ module _ (traced : Bool) where
           ∙ one-more k s n b h ∙ rw (enough k (length (behindOf b)) a (n + 1) (behindOf b) (omega arith) (omega arith))
 
 -- bytes that checks 4 or 5 refuse
-pub step-unread : (s : State) (b : List ℕ) → wellFormed s ≡ true → (checkOf b ≡ 0 → ⊥) → stepOf s b 182 ≡ refused (checkOf b) s
+step-unread : (s : State) (b : List ℕ) → wellFormed s ≡ true → (checkOf b ≡ 0 → ⊥)
+    → stepOf s b fullRoom ≡ refused (checkOf b) s
 unfolding stepOf unreadable
 step-unread s b w n = rw (w, ne-eqb (checkOf b) 0 n, ne-eqb (checkOf b) 0 n)
 
@@ -115,8 +118,8 @@ stops : goesOn 4 ≡ false
 unfolding goesOn
 stops = refl
 
--- What a record is answered is not changed by later bytes f: where it is whole, where no byte comes later, or where its mark is no
--- record's, of which two bytes tell.
+-- What a record is answered is not changed by later bytes f: where it is whole, where no byte comes later, or where
+-- its mark is no record's, of which two bytes tell.
 pub data Decided (w f : List ℕ) : Type 0 where
   entire : runCheck w ≡ 0 → Decided w f
   last : f ≡ [] → Decided w f
@@ -128,7 +131,8 @@ module _ (traced : Bool) (s : State) (n : ℕ) (well : wellFormed s ≡ true) (w
       ++ ifb (goesOn (answerFor s w .refusal)) (linesOf traced (answerFor s w .state) (n + 1) (behindOf w ++ f)) []
 
   first : linesOf traced s n (w ++ f) ≡ lineFor traced (n + 1) (answerFor s (w ++ f))
-      ++ ifb (goesOn (answerFor s (w ++ f) .refusal)) (linesOf traced (answerFor s (w ++ f) .state) (n + 1) (behindOf (w ++ f))) []
+      ++ ifb (goesOn (answerFor s (w ++ f) .refusal))
+      (linesOf traced (answerFor s (w ++ f) .state) (n + 1) (behindOf (w ++ f))) []
   first = lines-first traced s n (w ++ f) (let g = length-append w f in omega arith)
 
   same : frontOf (w ++ f) ≡ frontOf w → behindOf (w ++ f) ≡ behindOf w ++ f → FirstLine
@@ -137,8 +141,10 @@ module _ (traced : Bool) (s : State) (n : ℕ) (well : wellFormed s ≡ true) (w
   pub decided-text : Decided w f → FirstLine
   decided-text (entire e) =
       let k = whole-stays w f h e in
-      same (front-first (w ++ f) (k .0) ∙ k .1 ∙ sym (front-first w e)) (behind-rest (w ++ f) (k .0) ∙ k .2 ∙ ap (λ (l : List ℕ). l ++ f) (sym (behind-rest w e)))
-  decided-text (last e) = rw e (lines-first traced s n (w ++ []) (rw (append-nil w) h) ∙ rw (append-nil w, append-nil (behindOf w)))
+      same (front-first (w ++ f) (k .0) ∙ k .1 ∙ sym (front-first w e))
+      (behind-rest (w ++ f) (k .0) ∙ k .2 ∙ ap (λ (l : List ℕ). l ++ f) (sym (behind-rest w e)))
+  decided-text (last e) =
+      rw e (lines-first traced s n (w ++ []) (rw (append-nil w) h) ∙ rw (append-nil w, append-nil (behindOf w)))
   decided-text (marked l e) =
       let d = other-stays w f l e in
       let a : answerFor s (w ++ f) ≡ refused 4 s = stopped (w ++ f) d in
@@ -157,6 +163,7 @@ no-office traced f = refl
 
 -- the first byte makes a state, or the one line is the text
 pub text-made : (traced : Bool) (office : ℕ) (f : List ℕ)
-    → textOf traced (office ∷ f) ≡ ifb (eqb (madeOf office .refusal) 0) (linesOf traced (madeOf office .state) 0 f) noOffice
+    → textOf traced (office ∷ f)
+    ≡ ifb (eqb (madeOf office .refusal) 0) (linesOf traced (madeOf office .state) 0 f) noOffice
 unfolding textOf
 text-made traced office f = refl

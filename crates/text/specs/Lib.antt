@@ -1,4 +1,5 @@
-pub mod Text
 pub mod Digits
+pub mod Text
+pub mod Lengths
 pub mod Put
 pub mod Lines

@@ -10,7 +10,7 @@ use Rattle.rules.specs.State.{State}
 use Rattle.rules.specs.Refusals.{fullRoom, Result, madeOf, stepOf, allBytes, size}
 use Rattle.text.specs.Text.{lineOf}
 
--- the record in front, cut by its mark's length; where the reading ends with 4 or 5, the rest of the input counts as that record
+-- the record in front, cut by its mark's length; where the reading ends with 4 or 5, all the rest is that record
 unfoldable pub frontOf : List ℕ → List ℕ
 frontOf b = ifb (eqb (runCheck b) 0) (runFirst b) b
 
@@ -27,9 +27,13 @@ unfoldable pub lineFor : Bool → ℕ → Result → List ℕ
 lineFor traced n q =
     lineOf n (q .refusal) (size (q .written)) (q .state .view .number) (ifb traced (allBytes (q .written)) [])
 
--- after 4 or 5 the program stops
+-- with 4 or 5 the reading of the input ends
+abbrev pub endsReading : ℕ → Bool
+endsReading refusal = eqb refusal 4 || eqb refusal 5
+
+-- the program then stops
 unfoldable pub goesOn : ℕ → Bool
-goesOn refusal = not (eqb refusal 4 || eqb refusal 5)
+goesOn refusal = not (endsReading refusal)
 
 -- the lines of at most k records, where n records came before
 unfoldable pub linesIn : ℕ → Bool → State → ℕ → List ℕ → List ℕ

@@ -1,25 +1,31 @@
-// Numbers in decimal digits and bytes in hexadecimal ones, inner to the program: put into a buffer from a place on; each call answers the place after its text.
+// Numbers in decimal and bytes in hexadecimal digits, put into a buffer from a place on; inner to the program.
 ghost use mathlib.Core.Path.{_≡_};
 ghost use Prim.Native.Nat.{_+_, _*_, _/_, _%_, _<_, _≤_};
 ghost use lib.ListN.{length};
 ghost use lib.Seq.{sets};
 ghost use Rattle.text.specs.Digits.{glyph, decimal, lastDigits, hexOf};
-ghost use Rattle.text.specs.Put.{Put, Places};
+ghost use Rattle.text.specs.Lengths.{numberLength};
+ghost use Rattle.text.specs.Put.{Put, DigitCount};
+
+// The most decimal digits that a number has, and the highest power of ten that is a number.
+pub const MOST: usize = 20;
+
+const POWER: usize = MOST - 1;
 
 // How many decimal digits n has.
-fn places(n: u64) -> usize
-    ensures { λ r. ⌜ Places n r ⌝ }
+fn digit_count(n: u64) -> usize
+    ensures { λ r. ⌜ DigitCount n r ⌝ }
 {
     let mut k: usize = 1;
     let mut top: u64 = 10;
-    while k < 19 {
+    while k < POWER {
         if n < top {
             return k;
         }
         top = top * 10;
         k += 1;
     }
-    if n < top { 19 } else { 20 }
+    if n < top { POWER } else { MOST }
 }
 
 // The last k digits of n from a place on.
@@ -37,14 +43,14 @@ fn spell(out: &mut [u8], at: usize, k: usize, n: u64)
 }
 
 pub fn put_number(out: &mut [u8], at: usize, n: u64) -> usize
-    requires { ⌜ at + 20 ≤ length (now out) ⌝ }
-    ensures { λ r. ⌜ Put 20 (now (out .entry)) at (decimal n) r (now (out .exit)) ⌝ }
+    requires { ⌜ at + numberLength ≤ length (now out) ⌝ }
+    ensures { λ r. ⌜ Put numberLength (now (out .entry)) at (decimal n) r (now (out .exit)) ⌝ }
 {
     if n < 10 {
         out[at] = 48 + (n as u8);
         return at + 1;
     }
-    let k = places(n);
+    let k = digit_count(n);
     spell(out, at, k, n);
     at + k
 }
@@ -70,7 +76,8 @@ fn low(x: u8) -> u8
 
 pub fn put_hex(out: &mut [u8], at: usize, bytes: &[u8]) -> usize
     requires { ⌜ at + 2 * length (now bytes) ≤ length (now out) ⌝ }
-    ensures { λ r. ⌜ Put (2 * length (now (bytes .entry))) (now (out .entry)) at (hexOf (now (bytes .entry))) r (now (out .exit)) ⌝ }
+    ensures { λ r. ⌜ Put (2 * length (now (bytes .entry))) (now (out .entry)) at (hexOf (now (bytes .entry))) r
+        (now (out .exit)) ⌝ }
 {
     let mut i: usize = 0;
     while i < bytes.len() {

@@ -2,19 +2,25 @@
 use digits::put_hex;
 use digits::put_number;
 ghost use mathlib.Core.List.{_∷_};
-ghost use Prim.Native.Nat.{_+_, _*_, _≤_};
+ghost use Prim.Native.Nat.{_+_, _≤_};
 ghost use lib.ListN.{length};
 ghost use Rattle.text.specs.Digits.{decimal};
+ghost use Rattle.text.specs.Lengths.{nextLength, numbersLength, traceLength, lineLength};
 ghost use Rattle.text.specs.Put.{Put};
 ghost use Rattle.text.specs.Text.{traceOf, numbersOf, lineOf};
 
+// numbers and bytes in digits
 mod digits;
+// which line is the last
 pub mod lines;
+
+// The most that a line takes beside the bytes that it shows: four numbers, a space behind each, its end.
+pub const LINE: usize = 4 * digits::MOST + 5;
 
 // A space and a number.
 fn put_next(out: &mut [u8], at: usize, n: u64) -> usize
-    requires { ⌜ at + 21 ≤ length (now out) ⌝ }
-    ensures { λ r. ⌜ Put 21 (now (out .entry)) at (32 ∷ decimal n) r (now (out .exit)) ⌝ }
+    requires { ⌜ at + nextLength ≤ length (now out) ⌝ }
+    ensures { λ r. ⌜ Put nextLength (now (out .entry)) at (32 ∷ decimal n) r (now (out .exit)) ⌝ }
 {
     out[at] = b' ';
     put_number(out, at + 1, n)
@@ -28,8 +34,9 @@ fn put_numbers(
     written: usize,
     view: u32,
 ) -> usize
-    requires { ⌜ at + 83 ≤ length (now out) ⌝ }
-    ensures { λ r. ⌜ Put 83 (now (out .entry)) at (numbersOf number refusal written view) r (now (out .exit)) ⌝ }
+    requires { ⌜ at + numbersLength ≤ length (now out) ⌝ }
+    ensures { λ r. ⌜ Put numbersLength (now (out .entry)) at (numbersOf number refusal written view) r
+        (now (out .exit)) ⌝ }
 {
     let a = put_number(out, at, number);
     let b = put_next(out, a, refusal as u64);
@@ -39,8 +46,9 @@ fn put_numbers(
 
 // A space and the bytes in hexadecimal; nothing where there are none.
 fn put_trace(out: &mut [u8], at: usize, bytes: &[u8]) -> usize
-    requires { ⌜ at + 2 * length (now bytes) + 1 ≤ length (now out) ⌝ }
-    ensures { λ r. ⌜ Put (2 * length (now (bytes .entry)) + 1) (now (out .entry)) at (traceOf (now (bytes .entry))) r (now (out .exit)) ⌝ }
+    requires { ⌜ at + traceLength (length (now bytes)) ≤ length (now out) ⌝ }
+    ensures { λ r. ⌜ Put (traceLength (length (now (bytes .entry)))) (now (out .entry))
+        at (traceOf (now (bytes .entry))) r (now (out .exit)) ⌝ }
 {
     if bytes.len() == 0 {
         return at;
@@ -59,8 +67,8 @@ pub fn put_line(
     view: u32,
     shown: &[u8],
 ) -> usize
-    requires { ⌜ at + 85 + 2 * length (now shown) ≤ length (now out) ⌝ }
-    ensures { λ r. ⌜ Put (85 + 2 * length (now (shown .entry))) (now (out .entry)) at
+    requires { ⌜ at + lineLength (length (now shown)) ≤ length (now out) ⌝ }
+    ensures { λ r. ⌜ Put (lineLength (length (now (shown .entry)))) (now (out .entry)) at
         (lineOf number refusal written view (now (shown .entry))) r (now (out .exit)) ⌝ }
 {
     let a = put_numbers(out, at, number, refusal, written, view);

@@ -1,13 +1,17 @@
-// The lines of the program as text, by document 01, and the one choice that they make; inner to the program.
+// Which line of the program is the last; inner to the program.
 ghost use mathlib.Core.Path.{_≡_};
-ghost use Rattle.text.specs.Lines.{goesOn};
+ghost use Rattle.text.specs.Lines.{endsReading, goesOn};
 
-// After 4 or 5 the program stops.
+// With 4 or 5 the reading of the input ends.
+fn ends_reading(refusal: u8) -> bool
+    ensures { λ r. ⌜ r ≡ endsReading refusal ⌝ }
+{
+    (refusal == 4) | (refusal == 5)
+}
+
+// The program then stops.
 pub fn goes_on(refusal: u8) -> bool
     ensures { λ r. ⌜ r ≡ goesOn refusal ⌝ }
 {
-    if refusal == 4 {
-        return false;
-    }
-    refusal != 5
+    !ends_reading(refusal)
 }

@@ -1,3 +1,4 @@
+// The same program with the bytes written behind each line.
 fn main() {
     feed::run(true);
 }

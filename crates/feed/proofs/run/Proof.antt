@@ -7,11 +7,11 @@ use Rattle.feed.proofs.run.Tie as tie
 office-requires : tie.Need-office-requires
 office-requires c κs = search needs
 
-slice-aggregate-make : tie.Need-slice-aggregate-make
-slice-aggregate-make c = search needs
+slice-aggregate-make-state : tie.Need-slice-aggregate-make-state
+slice-aggregate-make-state c = search needs
 
-make-requires : tie.Need-make-requires
-make-requires c κs = search needs
+make-state-requires : tie.Need-make-state-requires
+make-state-requires c κs = search needs
 
 no-office-requires : tie.Need-no-office-requires
 no-office-requires c κs = search needs
@@ -48,7 +48,13 @@ slice-aggregate-serve-3 c = search needs
 
 serve-requires : tie.Need-serve-requires
 serve-requires c κs =
-    (c .before .before .before .before .before .before .before .make .ensures .sound (not-false _ (c .before .before .before .before .before .if1 .left)), sym (c .before .before .before .before .large-buffer .ensures), sym (c .before .before .before .large-buffer2 .ensures))
+    let b = c .before .before .before in
+    let i = b .before .before .if1 .left in
+    record {
+      sound = b .before .before .before .before .make-state .ensures .sound (not-false _ i);
+      input = sym (b .before .large-buffer .ensures);
+      output = sym (b .large-buffer2 .ensures);
+    }
 
 returns-3 : tie.Need-returns-3
 returns-3 c = search needs
@@ -58,8 +64,8 @@ run-spec =
     tie.close
     (tie.spec
     office-requires
-    slice-aggregate-make
-    make-requires
+    slice-aggregate-make-state
+    make-state-requires
     no-office-requires
     slice-aggregate-write-all
     write-all-requires

@@ -15,25 +15,33 @@ abbrev μ-loop : tie.MeasureT-loop
 μ-loop state₀ input₀ output₀ traced place₀ more₀ failed₀ left₀ state input output place more failed left = left
 
 loop-holds : tie.Need-loop-holds Inv-loop μ-loop
-loop-holds c = (ran-begun _ _ _ (c .before .before .before .pre .0), refl, refl, refl)
+loop-holds c = (ran-begun _ _ _ (c .before .before .before .pre .sound), refl, refl, refl)
 
 turn-requires : tie.Need-turn-requires Inv-loop μ-loop
 turn-requires c κs =
     let l = c .before .before .before .before .loop .inv in
     let s = c .before .before .before .before .before .before .before .before .pre in
-    (l .0 .sound, l .0 .within, l .2 ∙ s .1, l .3 ∙ s .2, omega (arith, l .0 .number))
+    record {
+      lent = record { sound = l .0 .sound; input = l .2 ∙ s .input; output = l .3 ∙ s .output };
+      within = l .0 .within;
+      number = omega (arith, l .0 .number);
+    }
 
 turns-left-requires : tie.Need-turns-left-requires Inv-loop μ-loop
 turns-left-requires c κs = omega arith
 
 loop-less : tie.Need-loop-less Inv-loop μ-loop
-loop-less c = left-less (c .before .before .before .before .before .before .before .before .turn .result .more) (c .before .before .before .before .before .before .before .before .turn .result .failed) _ _ (omega arith) (c .turns-left .ensures)
+loop-less c =
+    let t = c .before .before .before .before .before .before .before .before .turn .result in
+    left-less (t .more) (t .failed) _ _ (omega arith) (c .turns-left .ensures)
 
 loop-again : tie.Need-loop-again Inv-loop μ-loop
 loop-again c =
-    let l = c .before .before .before .before .before .before .before .before .before .before .before .before .before .loop .inv in
-    let t = c .before .before .before .before .before .before .before .before .turn in
-    (ran-turned (l .0) (omega arith) (t .ensures) (c .turns-left .ensures), t .kept .0 ∙ l .1, t .kept .1 .1 .0 ∙ l .2, t .kept .1 .1 .1 .0 ∙ l .3)
+    let b = c .before .before .before .before .before .before .before .before in
+    let t = b .turn in
+    let l = b .before .before .before .before .before .loop .inv in
+    let r = ran-turned (l .0) (omega arith) (t .ensures) (c .turns-left .ensures) in
+    (r, t .kept .0 ∙ l .1, t .kept .1 .1 .0 ∙ l .2, t .kept .1 .1 .1 .0 ∙ l .3)
 
 same-length : tie.Need-same-length Inv-loop μ-loop
 same-length c = c .before .loop .inv .1

@@ -24,7 +24,8 @@ returns c =
     let g = f .before .before .before .before in
     let h = g .before .before .before .before in
     let i = h .before .before .before .before in
-    put-then (i .put-number .ensures) (put-then (h .put-next .ensures) (put-then (g .put-next2 .ensures) (f .put-next3 .ensures)))
+    put-then (i .put-number .ensures)
+    (put-then (h .put-next .ensures) (put-then (g .put-next2 .ensures) (f .put-next3 .ensures)))
 
 pub put-numbers-spec : {M : Type 1} → statement M
 put-numbers-spec =

@@ -20,7 +20,9 @@ run-first-requires : tie.Need-run-first-requires
 run-first-requires c κs = search needs
 
 returns : tie.Need-returns
-returns c = c .run-first .ensures .is ∙ sym (front-first _ (sym (c .before .before .run-check .ensures) ∙ c .before .if1 .taken))
+returns c =
+    let i = c .before in
+    c .run-first .ensures .is ∙ sym (front-first _ (sym (i .before .run-check .ensures) ∙ i .if1 .taken))
 
 returns-2 : tie.Need-returns-2
 returns-2 c = sym (front-all _ (λ e. c .if1 .left (c .before .run-check .ensures ∙ e)))

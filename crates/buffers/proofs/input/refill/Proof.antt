@@ -32,10 +32,13 @@ same-length c = search needs
 
 returns : tie.Need-returns
 returns c =
-    let f = c .before .before .before .before .before .before .to-front in
-    let a = c .before .before .before .before .before .before .before .before .before .before in
-    refilled (a .args .p) (a .args .input .now) (f .last .0) (c .before .before .read-some .last .0) (c .before .before .read-some .result)
-    (a .pre .0) (a .pre .1) (f .ensures) (f .kept .0) (simp (length-take, length-drop) at (c .before .before .read-some .kept .0) ∙ omega (arith, f .kept .0)) (c .before .before .read-some .ensures)
+    let r = c .before .before .read-some in
+    let b = c .before .before .before .before .before .before in
+    let f = b .to-front in
+    let a = b .before .before .before .before in
+    refilled (a .args .p) (a .args .input .now) (f .last .0) (r .last .0) (r .result)
+    (a .pre .0) (a .pre .1) (f .ensures) (f .kept .0)
+    (simp (length-take, length-drop) at (r .kept .0) ∙ omega (arith, f .kept .0)) (r .ensures)
 
 pub refill-spec : {M : Type 1} → statement M
 refill-spec =

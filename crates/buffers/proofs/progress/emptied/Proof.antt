@@ -1,5 +1,5 @@
 use borrow.Author.Needs.{needs}
-use Rattle.buffers.proofs.Standing.{sent-few, emptied}
+use Rattle.buffers.proofs.ProgressLaws.{sent-few, emptied}
 use Rattle.buffers.proofs.progress.emptied.Statement.{statement}
 use Rattle.buffers.proofs.progress.emptied.Tie as tie
 

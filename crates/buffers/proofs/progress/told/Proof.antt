@@ -2,7 +2,7 @@ use borrow.Author.Needs.{needs}
 use mathlib.Core.Path.{sym}
 use native.Mathlib.Omega.{arith}
 use lib.Seq.{length-take-le}
-use Rattle.buffers.proofs.Standing.{told}
+use Rattle.buffers.proofs.ProgressLaws.{told}
 use Rattle.buffers.proofs.progress.told.Statement.{statement}
 use Rattle.buffers.proofs.progress.told.Tie as tie
 
@@ -14,14 +14,17 @@ add-number c = search needs
 
 slice-aggregate-put-line : tie.Need-slice-aggregate-put-line
 slice-aggregate-put-line c =
-    let s = c .before .before .before .before .before .before in
-    sym (length-take-le _ (s .args .out .now) (omega (arith, c .before .before .before .shown .ensures .1, s .pre .4, s .pre .5)))
+    let b = c .before .before .before in
+    let s = b .before .before .before in
+    sym (length-take-le _ (s .args .out .now) (omega (arith, b .shown .ensures .1, s .pre .written, s .pre .shown)))
 
 put-line-requires : tie.Need-put-line-requires
 put-line-requires c κs =
-    let s = c .before .before .before .before .before .before in
-    let l = length-take-le (c .before .before .before .shown .result) (s .args .out .now) (omega (arith, c .before .before .before .shown .ensures .1, s .pre .4, s .pre .5)) in
-    omega (arith, l, c .before .before .before .shown .ensures .1, s .pre .1, s .pre .3, s .pre .4)
+    let b = c .before .before .before in
+    let s = b .before .before .before in
+    let n = b .shown .ensures .1 in
+    let l = length-take-le (b .shown .result) (s .args .out .now) (omega (arith, n, s .pre .written, s .pre .shown)) in
+    omega (arith, l, n, s .pre .line, s .pre .output, s .pre .written)
 
 add-t15 : tie.Need-add-t15
 add-t15 c = search needs
@@ -31,11 +34,23 @@ same-length c = search needs
 
 returns : tie.Need-returns
 returns c =
-    let s = c .before .before .before .before .before .before .before .before .before .before in
-    let n = c .before .before .before .before .before .before .before .shown .ensures in
-    let l = length-take-le (c .before .before .before .before .before .before .before .shown .result) (s .args .out .now) (omega (arith, n .1, s .pre .4, s .pre .5)) in
-    told (s .args .traced) (s .args .p) (s .args .taken) (s .args .a) (s .args .view) (s .args .out .now) (n .0) (c .before .before .before .put-line .ensures)
-    (omega (arith, l, n .1, s .pre .1, s .pre .4)) (s .pre .3)
+    let t = c .before .before .before in
+    let b = t .before .before .before .before in
+    let s = b .before .before .before in
+    let a = s .args in
+    let n = b .shown .ensures in
+    let l = length-take-le (b .shown .result) (a .out .now) (omega (arith, n .1, s .pre .written, s .pre .shown)) in
+    told (a .traced) (a .p) (a .taken) (a .a) (a .view) (a .out .now) (n .0) (t .put-line .ensures)
+    (omega (arith, l, n .1, s .pre .line, s .pre .written)) (s .pre .output)
 
 pub told-spec : {M : Type 1} → statement M
-told-spec = tie.close (tie.spec shown-requires add-number slice-aggregate-put-line put-line-requires add-t15 same-length returns)
+told-spec =
+    tie.close
+    (tie.spec
+    shown-requires
+    add-number
+    slice-aggregate-put-line
+    put-line-requires
+    add-t15
+    same-length
+    returns)

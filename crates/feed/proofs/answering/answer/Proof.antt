@@ -10,11 +10,11 @@ use Rattle.feed.proofs.answering.answer.Tie as tie
 front-requires : tie.Need-front-requires
 front-requires c κs = search needs
 
-slice-aggregate-hand : tie.Need-slice-aggregate-hand
-slice-aggregate-hand c = search needs
+slice-aggregate-step-held : tie.Need-slice-aggregate-step-held
+slice-aggregate-step-held c = search needs
 
-hand-requires : tie.Need-hand-requires
-hand-requires c κs = search needs
+step-held-requires : tie.Need-step-held-requires
+step-held-requires c κs = search needs
 
 view-number-requires : tie.Need-view-number-requires
 view-number-requires c κs = search needs
@@ -25,10 +25,20 @@ slice-aggregate-told c = search needs
 told-requires : tie.Need-told-requires
 unfolding windowOf
 told-requires c κs =
-    let s = c .before .before .before .before .before .before .before .before .before .before .before .before .before .before in
-    let a = c .before .before .before .before .before .before .before .hand in
-    let l = front-fits (s .args .p) (s .args .input .now) (s .pre .2) (s .pre .1) (c .before .before .before .before .before .before .before .before .before .before .front .ensures) in
-    (omega (arith, l, s .pre .1 .read), s .pre .3, s .pre .5, s .pre .4, written-short _ _ _ (a .ensures), a .kept .1 .1 .0)
+    let h = c .before .before .before .before .before .before .before in
+    let f = h .before .before .before in
+    let s = f .before .before .before .before in
+    let a = h .step-held in
+    let r = s .pre .0 in
+    let l = front-fits (s .args .p) (s .args .input .now) (r .lent .input) (r .within) (f .front .ensures) in
+    record {
+      inside = omega (arith, l, r .within .read);
+      line = s .pre .1;
+      number = r .number;
+      output = r .lent .output;
+      written = written-short _ _ _ (a .ensures);
+      shown = a .kept .1 .1 .0;
+    }
 
 goes-on-requires : tie.Need-goes-on-requires
 goes-on-requires c κs = search needs
@@ -42,17 +52,22 @@ same-length-2 c = search needs
 returns : tie.Need-returns
 unfolding windowOf
 returns c =
-    let s = c .before .before .before .before .before .before .before .before .before .before .before .before .before .before .before .before .before .before in
-    rw (sym (c .before .before .before .before .before .before .before .before .before .before .before .before .before .before .front .ensures))
-    (answered (s .args .traced) (s .args .p) _ (c .before .before .before .before .before .before .before .before .before .before .before .hand .ensures) refl (c .before .before .before .before .before .before .view-number .ensures) (c .before .before .before .told .ensures) (c .goes-on .ensures))
+    let t = c .before .before .before in
+    let v = t .before .before .before in
+    let h = v .before .before .before .before .before in
+    let f = h .before .before .before in
+    let s = f .before .before .before .before in
+    rw (sym (f .front .ensures))
+    (answered (s .args .traced) (s .args .p) _ (h .step-held .ensures) refl (v .view-number .ensures)
+    (t .told .ensures) (c .goes-on .ensures))
 
 pub answer-spec : {M : Type 1} → statement M
 answer-spec =
     tie.close
     (tie.spec
     front-requires
-    slice-aggregate-hand
-    hand-requires
+    slice-aggregate-step-held
+    step-held-requires
     view-number-requires
     slice-aggregate-told
     told-requires

@@ -1,7 +1,7 @@
 use borrow.Author.Needs.{needs}
 use mathlib.Core.Path.{sym, _∙_}
 use Rattle.laws.proofs.Fin.{true-false}
-use Rattle.feed.proofs.TurningLaws.{left-few, sent-within, turns-on, turns-failed}
+use Rattle.feed.proofs.TurningLaws.{left-few, sent-ready, turns-on, turns-failed}
 use Rattle.feed.proofs.turning.turn.Statement.{statement}
 use Rattle.feed.proofs.turning.turn.Tie as tie
 
@@ -17,12 +17,14 @@ sub-sent c = left-few (c .before .before .emptied .ensures)
 has-room-requires : tie.Need-has-room-requires
 has-room-requires c κs = search needs
 
-act-requires : tie.Need-act-requires
-act-requires c κs =
-    let s = c .before .before .before .before .before .before .before .before .before .before .before .before .before .before in
+advance-requires : tie.Need-advance-requires
+advance-requires c κs =
     let t = c .before .before .before in
-    let w = sent-within (s .args .input .now) (s .pre .1) (c .before .before .before .before .before .before .before .emptied .ensures) in
-    (s .pre .0, w .0, c .before .before .before .before .before .before .before .before .before .waits .ensures ∙ w .1, sym (t .before .has-room .ensures) ∙ t .if1 .taken, s .pre .2, s .pre .3, w .2 (s .pre .4))
+    let q = t .before .before .before .before in
+    let b = q .before .before in
+    let s = b .before .before .before .before .before in
+    let r = sent-ready (s .args .input .now) (s .args .output .now) (s .pre) (q .emptied .ensures) in
+    (r .0, b .waits .ensures ∙ r .1, sym (t .before .has-room .ensures) ∙ t .if1 .taken)
 
 same-length : tie.Need-same-length
 same-length c = search needs
@@ -35,11 +37,16 @@ same-length-3 c = search needs
 
 returns : tie.Need-returns
 returns c =
-    let s = c .before .before .before .before .before .before .before .before .before .before .before .before .before .before .before .before .before .before .before .before .before .before in
-    let t = c .before .before .before .before .before .before .before .before .before .before .before in
-    let q = c .before .before .before .before .before .before .before .before .before .before .before .before .before .before .before .emptied .ensures in
-    turns-on (s .args .p) _ (s .args .output .now) _ (s .pre .1) (s .pre .3) (q .sent) (q .place) (s .args .traced) (s .args .input .now)
-    (c .before .before .before .before .before .before .before .before .before .before .before .before .before .before .before .before .before .waits .ensures) (sym (t .before .has-room .ensures) ∙ t .if1 .taken) (c .before .before .before .before .before .before .before .act .ensures)
+    let n = c .before .before .before .before .before .before .before in
+    let t = n .before .before .before .before in
+    let e = t .before .before .before .before in
+    let b = e .before .before in
+    let s = b .before .before .before .before .before in
+    let a = s .args in
+    let q = e .emptied .ensures in
+    turns-on (a .p) _ (a .output .now) _ (s .pre .within) (s .pre .lent .output) (q .sent) (q .place)
+    (a .traced) (a .input .now) (b .waits .ensures) (sym (t .before .has-room .ensures) ∙ t .if1 .taken)
+    (n .advance .ensures)
 
 same-length-4 : tie.Need-same-length-4
 same-length-4 c = search needs
@@ -49,10 +56,14 @@ same-length-5 c = search needs
 
 returns-2 : tie.Need-returns-2
 returns-2 c =
-    let s = c .before .before .before .before .before .before .before .before .before .before .before in
-    let q = c .before .before .before .before .emptied .ensures in
-    turns-failed (s .args .p) _ (s .args .output .now) _ (s .pre .1) (s .pre .3) (q .sent) (q .place) (s .args .traced) (s .args .input .now)
-    (c .before .before .before .before .before .before .waits .ensures) (s .pre .0) (λ e. true-false _ (c .before .has-room .ensures ∙ e) (c .if1 .left))
+    let e = c .before .before .before .before in
+    let b = e .before .before in
+    let s = b .before .before .before .before .before in
+    let a = s .args in
+    let q = e .emptied .ensures in
+    turns-failed (a .p) _ (a .output .now) _ (s .pre .within) (s .pre .lent .output) (q .sent) (q .place)
+    (a .traced) (a .input .now) (b .waits .ensures) (s .pre .lent .sound)
+    (λ z. true-false _ (c .before .has-room .ensures ∙ z) (c .if1 .left))
 
 pub turn-spec : {M : Type 1} → statement M
 turn-spec =
@@ -62,7 +73,7 @@ turn-spec =
     emptied-requires
     sub-sent
     has-room-requires
-    act-requires
+    advance-requires
     same-length
     same-length-2
     same-length-3

@@ -10,7 +10,8 @@ use Rattle.text.proofs.digits.put_hex.Statement.{statement}
 use Rattle.text.proofs.digits.put_hex.Tie as tie
 
 abbrev Inv-loop : tie.InvT-loop
-Inv-loop out₀ at bytes i₀ out i = (i ≤ length bytes) × (length out ≡ length out₀) × (out ≡ sets out₀ at (hexOf (take i bytes)))
+Inv-loop out₀ at bytes i₀ out i =
+    (i ≤ length bytes) × (length out ≡ length out₀) × (out ≡ sets out₀ at (hexOf (take i bytes)))
 
 abbrev μ-loop : tie.MeasureT-loop
 μ-loop out₀ at bytes i₀ out i = length bytes - i
@@ -65,7 +66,8 @@ loop-again c =
     let b = a .bytes .now in (
       omega arith,
       simp length-set (l .inv .1),
-      rw (c .before .before .high .ensures, c .low .ensures, l .inv .2) (hex-more (a .out .now) (a .at) (l .i) b (omega arith)),
+      rw (c .before .before .high .ensures, c .low .ensures, l .inv .2)
+          (hex-more (a .out .now) (a .at) (l .i) b (omega arith)),
     )
 
 mul-result : tie.Need-mul-result Inv-loop μ-loop

@@ -21,8 +21,8 @@ same-length c = search needs
 returns : tie.Need-returns
 returns c = number-one _ _ _ (c .if1 .taken)
 
-places-requires : tie.Need-places-requires
-places-requires c κs = search needs
+digit-count-requires : tie.Need-digit-count-requires
+digit-count-requires c κs = search needs
 
 spell-requires : tie.Need-spell-requires
 spell-requires c κs = search needs
@@ -34,7 +34,9 @@ same-length-2 : tie.Need-same-length-2
 same-length-2 c = search needs
 
 returns-2 : tie.Need-returns-2
-returns-2 c = number-spelled _ _ (c .before .before .before .before .places .ensures) (c .before .before .spell .ensures)
+returns-2 c =
+    let s = c .before .before in
+    number-spelled _ _ (s .before .before .digit-count .ensures) (s .spell .ensures)
 
 pub put-number-spec : {M : Type 1} → statement M
 put-number-spec =
@@ -46,7 +48,7 @@ put-number-spec =
     add-result
     same-length
     returns
-    places-requires
+    digit-count-requires
     spell-requires
     add-result-2
     same-length-2

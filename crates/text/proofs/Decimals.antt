@@ -1,4 +1,4 @@
--- A decimal number is the last digits of it, as many as it has.
+-- For the module digits: a decimal number is the last digits of it, as many as it has.
 use mathlib.Core.Path.{_≡_, refl, sym, ap, _∙_}
 use mathlib.Core.List.{[], _∷_}
 use Prim.Native.Nat.{ℕ, zero, suc, _+_, _-_, _*_, _/_, _%_, _^_, _≤_, _<_}
@@ -8,14 +8,15 @@ use native.Mathlib.Numerals.{add-one}
 use lib.ListN.{length, length-append}
 use borrow.Author.Tests.{lt-ltb, le-ltb}
 use Rattle.text.specs.Digits.{decimalIn, decimal, lastDigits}
-use Rattle.text.specs.Put.{Places}
+use Rattle.text.specs.Lengths.{numberLength}
+use Rattle.text.specs.Put.{DigitCount}
 
 pub digits-length : (k n : ℕ) → length (lastDigits k n) ≡ k
 unfolding lastDigits
 digits-length zero n = refl
 digits-length (suc k) n = let e = digits-length k (n / 10) in simp length-append (omega arith)
 
-pub one-digit : (f n : ℕ) → n < 10 → decimalIn f n ≡ (48 + n) ∷ []
+one-digit : (f n : ℕ) → n < 10 → decimalIn f n ≡ (48 + n) ∷ []
 unfolding decimalIn
 one-digit zero n h = refl
 one-digit (suc f) n h = rw (lt-ltb n 10 h)
@@ -43,7 +44,7 @@ digits-in (suc k) (suc f) n h l g =
     let v : 10 ^ k ≤ n / 10 = omega arith in
     rw (le-ltb n 10 t, digits-in k f (n / 10) (omega arith) u (λ z. v))
 
-pub decimal-digits : (n k : ℕ) → Places n k → decimal n ≡ lastDigits k n
+pub decimal-digits : (n k : ℕ) → DigitCount n k → decimal n ≡ lastDigits k n
 unfolding decimal
 decimal-digits n k h = rw (h .is) (digits-in (h .more) n n few (h .below) (h .above))
   where
@@ -59,9 +60,9 @@ unfolding decimal
 decimal-one n h = one-digit n n h
 
 -- the first power of ten above n
-pub places-at : (n k : ℕ) → 1 ≤ k → k ≤ 20 → (1 < k → 10 ^ (k - 1) ≤ n) → n < 10 ^ k → Places n k
-places-at n zero h l g b = absurd (omega arith)
-places-at n (suc k) h l g b =
+pub digit-count-at : (n k : ℕ) → 1 ≤ k → k ≤ numberLength → (1 < k → 10 ^ (k - 1) ≤ n) → n < 10 ^ k → DigitCount n k
+digit-count-at n zero h l g b = absurd (omega arith)
+digit-count-at n (suc k) h l g b =
     let e : suc k - 1 ≡ k = omega arith in
     record { more = k; is = refl; few = omega arith; below = b; above = λ z. rw e at (g (omega arith)) }
 

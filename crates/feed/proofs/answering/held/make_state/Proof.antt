@@ -1,0 +1,20 @@
+use Rattle.step.proofs.FreshRows.{fresh-holds}
+use Rattle.feed.proofs.Holding.{made}
+use borrow.Author.Needs.{needs}
+use Rattle.feed.proofs.answering.held.make_state.Statement.{statement}
+use Rattle.feed.proofs.answering.held.make_state.Tie as tie
+
+fresh-requires : tie.Need-fresh-requires
+fresh-requires c κs = search needs
+
+same-length : tie.Need-same-length
+same-length c = search needs
+
+returns : tie.Need-returns
+returns c =
+    let f = c .before .before in
+    let s = f .before .before .before in
+    made (s .args .office) (s .args .state .now) (s .pre) (f .fresh .ensures) (fresh-holds _ _ (s .pre))
+
+pub make-state-spec : {M : Type 1} → statement M
+make-state-spec = tie.close (tie.spec fresh-requires same-length returns)

@@ -1,0 +1,21 @@
+-- What a turn begins with.
+use mathlib.Core.Path.{_≡_}
+use mathlib.Core.List.{List}
+use Prim.Native.Nat.{ℕ, _+_, _^_, _<_}
+use lib.ListN.{length}
+use Rattle.buffers.specs.Room.{bufferLength}
+use Rattle.buffers.specs.Place.{Within}
+use Rattle.buffers.specs.declared.input.Place.{Place}
+use Rattle.feed.specs.Held.{Sound}
+
+-- what the program lends to its turns: a sound row and two whole buffers
+pub record Lent (ws i o : List ℕ) : Type 0 where
+  pub sound : Sound ws
+  pub input : length i ≡ bufferLength
+  pub output : length o ≡ bufferLength
+
+-- the program stands within them, and has a number for one record more
+pub record TurnReady (ws : List ℕ) (p : Place) (i o : List ℕ) : Type 0 where
+  pub lent : Lent ws i o
+  pub within : Within p
+  pub number : p .number + 1 < 2 ^ 64
