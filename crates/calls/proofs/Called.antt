@@ -1,4 +1,4 @@
--- What the step leaves, as a call.
+-- office: what the step leaves, as a call.
 use mathlib.Core.Path.{_≡_}
 use mathlib.Core.List.{List}
 use Prim.Native.Nat.{ℕ}
@@ -7,7 +7,8 @@ use Rattle.step.specs.Step.{stepRow, Stepped}
 use Rattle.calls.specs.Number.{callNumber}
 use Rattle.calls.specs.OfficeCalls.{callOf}
 
-pub call-is : (ws b o : List ℕ) (refusal written : ℕ) (ws′ o′ : List ℕ) (r : ℕ) → Stepped (stepRow ws b (length o)) o refusal written ws′ o′
+pub call-is : (ws b o : List ℕ) (refusal written : ℕ) (ws′ o′ : List ℕ) (r : ℕ)
+    → Stepped (stepRow ws b (length o)) o refusal written ws′ o′
     → r ≡ callNumber written refusal → record { answer = r; words = ws′; bytes = o′ } ≡ callOf ws b o
 unfolding callOf
 call-is ws b o refusal written ws′ o′ r h e = rw (e, h .same-refusal, h .same-written, h .same-words, h .same-out)

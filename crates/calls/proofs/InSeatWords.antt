@@ -1,4 +1,4 @@
--- A seat in words: the four words that are written, the calls at each exit, and what the words hold then.
+-- seat: the four words that are written, the calls at each exit, and what the words hold then.
 use mathlib.Core.Path.{_≡_, refl, sym}
 use mathlib.Core.Bool.{Bool, true, false}
 use mathlib.Core.List.{List, [], _∷_}
@@ -7,14 +7,15 @@ use native.Mathlib.Omega.{arith}
 use native.Mathlib.Decide.{ℕ-discrete}
 use lib.ListN.{length, set}
 use mir.Val.{boolByte}
-use borrow.Author.Tests.{eq-eqb, ne-eqb}
+use borrow.Author.Tests.{ne-eqb}
 use Rattle.laws.specs.Upd.{ifb}
 use Rattle.desk.specs.declared.checks.Desk.{Desk}
 use Rattle.desk.specs.declared.Heard.{Heard}
 use Rattle.desk.specs.Hearing.{madeDesk, hearOf}
 use Rattle.desk.specs.Syncing.{syncBytes}
-use Rattle.desk.proofs.Laws.{refusal-keeps}
-use Rattle.calls.specs.SeatWords.{deskLength, deskOf, deskWords, freshInWords, heardInWords, hearInWords, syncInWords}
+use Rattle.desk.proofs.HearingLaws.{refusal-keeps}
+use Rattle.calls.specs.SeatWords.{deskLength, isSeat, deskOf, deskWords}
+use Rattle.calls.specs.SeatWords.{freshInWords, heardInWords, hearInWords, syncInWords}
 
 flag : (b : Bool) → boolByte b ≡ ifb b 1 0
 flag true = refl
@@ -32,37 +33,38 @@ all-written (a ∷ b ∷ c ∷ []) d h = absurd (omega arith)
 all-written (a ∷ b ∷ c ∷ e ∷ f ∷ ws) d h = absurd (omega arith)
 
 -- words of another length
-module _ (ws : List ℕ) (other : length ws ≡ deskLength → ⊥) where
+module _ (ws : List ℕ) (other : isSeat ws ≡ false) where
   pub fresh-other : (seat : ℕ) → record { refusal = 6; words = ws } ≡ freshInWords seat ws
   unfolding freshInWords
-  fresh-other seat = rw (ne-eqb (length ws) deskLength other)
+  fresh-other seat = rw other
 
   pub sync-other : syncInWords ws ≡ []
   unfolding syncInWords
-  sync-other = rw (ne-eqb (length ws) deskLength other)
+  sync-other = rw other
 
   pub hear-other : (b : List ℕ) → record { refusal = 6; words = ws } ≡ hearInWords ws b
   unfolding hearInWords
-  hear-other b = rw (ne-eqb (length ws) deskLength other)
+  hear-other b = rw other
 
-module _ (ws : List ℕ) (four : length ws ≡ deskLength) where
+module _ (ws : List ℕ) (four : isSeat ws ≡ true) where
   pub fresh-made : (seat : ℕ) (m : Heard) (ws′ : List ℕ) → m ≡ madeDesk seat → ws′ ≡ deskWords (m .desk)
       → record { refusal = m .refusal; words = ws′ } ≡ freshInWords seat ws
   unfolding freshInWords
-  fresh-made seat m ws′ e d = rw (eq-eqb (length ws) deskLength four, d, e)
+  fresh-made seat m ws′ e d = rw (four, d, e)
 
   pub sync-words : syncInWords ws ≡ syncBytes (deskOf ws)
   unfolding syncInWords
-  sync-words = rw (eq-eqb (length ws) deskLength four)
+  sync-words = rw four
 
   module _ (b : List ℕ) (h : Heard) (e : h ≡ hearOf (deskOf ws) b) where
     pub hear-kept : (h .refusal ≡ 0 → ⊥) → record { refusal = h .refusal; words = ws } ≡ hearInWords ws b
     unfolding hearInWords
-    hear-kept n = rw (eq-eqb (length ws) deskLength four, ← e, ne-eqb (h .refusal) 0 n)
+    hear-kept n = rw (four, ← e, ne-eqb (h .refusal) 0 n)
 
-    pub hear-changed : h .refusal ≡ 0 → (ws′ : List ℕ) → ws′ ≡ deskWords (h .desk) → record { refusal = 0; words = ws′ } ≡ hearInWords ws b
+    pub hear-changed : h .refusal ≡ 0 → (ws′ : List ℕ) → ws′ ≡ deskWords (h .desk)
+        → record { refusal = 0; words = ws′ } ≡ hearInWords ws b
     unfolding hearInWords
-    hear-changed z ws′ d = rw (eq-eqb (length ws) deskLength four, ← e, z, d)
+    hear-changed z ws′ d = rw (four, ← e, z, d)
 
 -- the words read back are the seat that was written
 pub desk-back : (d : Desk) → deskOf (deskWords d) ≡ d
@@ -74,9 +76,9 @@ desk-back d = go (d .changing) refl
     go false e = rw e
 
 -- a call on four words is the seat's own hearing on what they hold, refused or not
-pub hear-holds : (ws b : List ℕ) → length ws ≡ deskLength → deskOf (hearInWords ws b .words) ≡ hearOf (deskOf ws) b .desk
+pub hear-holds : (ws b : List ℕ) → isSeat ws ≡ true → deskOf (hearInWords ws b .words) ≡ hearOf (deskOf ws) b .desk
 unfolding hearInWords
-hear-holds ws b four = rw (eq-eqb (length ws) deskLength four) (go (ℕ-discrete (h .refusal) 0))
+hear-holds ws b four = rw four (go (ℕ-discrete (h .refusal) 0))
   where
     h : Heard
     h = hearOf (deskOf ws) b

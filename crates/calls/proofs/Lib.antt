@@ -1,2 +1,4 @@
+-- office
+mod Called
+-- seat
 pub mod InSeatWords
-pub mod Called

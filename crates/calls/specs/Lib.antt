@@ -1,5 +1,10 @@
+-- number
 pub mod Number
-pub mod SeatWords
-pub mod AlongWord
-pub mod WaitingCalls
+-- office
 pub mod OfficeCalls
+-- waits
+pub mod WaitingCalls
+-- seat
+pub mod SeatWords
+-- along
+pub mod AlongWord

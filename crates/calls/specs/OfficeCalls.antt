@@ -14,7 +14,12 @@ pub record Called : Type 0 where
 
 -- the answer's value is how many bytes were written; they stand at the front of the output
 abbrev pub calledOf : List ℕ → RowResult → Called
-calledOf o q = record { answer = callNumber (size (q .written)) (q .refusal); words = q .words; bytes = sets o 0 (allBytes (q .written)) }
+calledOf o q =
+    record {
+      answer = callNumber (size (q .written)) (q .refusal);
+      words = q .words;
+      bytes = sets o 0 (allBytes (q .written));
+    }
 
 unfoldable pub callOf : List ℕ → List ℕ → List ℕ → Called
 callOf ws b o = calledOf o (stepRow ws b (length o))

@@ -1,5 +1,5 @@
 -- A seat's state in words: four of them, and what the calls from C leave in them.
-use mathlib.Core.Bool.{not}
+use mathlib.Core.Bool.{Bool, not}
 use mathlib.Core.List.{List, [], _∷_}
 use Prim.Native.Nat.{ℕ}
 use lib.ListN.{length, getD}
@@ -13,9 +13,14 @@ use Rattle.desk.specs.Syncing.{syncBytes}
 abbrev pub deskLength : ℕ
 deskLength = 4
 
+-- words of another length are no seat
+abbrev pub isSeat : List ℕ → Bool
+isSeat ws = eqb (length ws) deskLength
+
 -- the seat, the last start number, the last view number, and 0 where no change is open
 unfoldable pub deskOf : List ℕ → Desk
-deskOf ws = record { seat = getD ws 0 0; start = getD ws 1 0; view = getD ws 2 0; changing = not (eqb (getD ws 3 0) 0) }
+deskOf ws =
+    record { seat = getD ws 0 0; start = getD ws 1 0; view = getD ws 2 0; changing = not (eqb (getD ws 3 0) 0) }
 
 unfoldable pub deskWords : Desk → List ℕ
 deskWords d = d .seat ∷ d .start ∷ d .view ∷ ifb (d .changing) 1 0 ∷ []
@@ -25,19 +30,21 @@ pub record InWords : Type 0 where
   pub refusal : ℕ
   pub words : List ℕ
 
--- words of another length are no seat: 6, and they stay
+-- words that are no seat: 6, and they stay
 unfoldable pub freshInWords : ℕ → List ℕ → InWords
 freshInWords seat ws =
-    ifb (eqb (length ws) deskLength) (record { refusal = madeDesk seat .refusal; words = deskWords (madeDesk seat .desk) })
+    ifb (isSeat ws) (record { refusal = madeDesk seat .refusal; words = deskWords (madeDesk seat .desk) })
     (record { refusal = 6; words = ws })
 
 -- a refusal leaves every word as it was
 abbrev pub heardInWords : List ℕ → Heard → InWords
-heardInWords ws h = ifb (eqb (h .refusal) 0) (record { refusal = 0; words = deskWords (h .desk) }) (record { refusal = h .refusal; words = ws })
+heardInWords ws h =
+    ifb (eqb (h .refusal) 0) (record { refusal = 0; words = deskWords (h .desk) })
+    (record { refusal = h .refusal; words = ws })
 
 unfoldable pub hearInWords : List ℕ → List ℕ → InWords
-hearInWords ws b = ifb (eqb (length ws) deskLength) (heardInWords ws (hearOf (deskOf ws) b)) (record { refusal = 6; words = ws })
+hearInWords ws b = ifb (isSeat ws) (heardInWords ws (hearOf (deskOf ws) b)) (record { refusal = 6; words = ws })
 
--- the bytes of the seat's sync record; words of another length have none
+-- the bytes of the seat's sync record; words that are no seat have none
 unfoldable pub syncInWords : List ℕ → List ℕ
-syncInWords ws = ifb (eqb (length ws) deskLength) (syncBytes (deskOf ws)) []
+syncInWords ws = ifb (isSeat ws) (syncBytes (deskOf ws)) []

@@ -1,7 +1,19 @@
 // The calls for C; include/room.h declares them.
-mod along;
+
+// The number that a call answers.
 mod number;
-mod office;
+
+// What a desk asks without a state: is this a record, whom does it concern.
 mod questions;
-mod seat;
+
+// An office at work: its state and the step.
+mod office;
+
+// Whom an office waits for.
 mod waits;
+
+// A seat at its desk.
+mod seat;
+
+// Who came along from the old view.
+mod along;

@@ -1,4 +1,4 @@
-// The number that a call for C answers: 256 times a value, and a refusal or 0; inner to the calls for C.
+// The number that a call for C answers: 256 times a value, and a refusal or 0.
 ghost use mathlib.Core.Path.{_≡_};
 ghost use Rattle.calls.specs.Number.{callNumber};
 

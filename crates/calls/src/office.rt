@@ -15,7 +15,7 @@ pub extern "C" fn room_fresh(office: u8, state: &mut [u32]) -> u8
     step::fresh(office, state)
 }
 
-fn answer(written: usize, refusal: u8) -> u32
+fn step_number(written: usize, refusal: u8) -> u32
     requires { ⌜ written ≤ fullRoom ⌝ }
     ensures { λ r. ⌜ r ≡ callNumber written refusal ⌝ }
 {
@@ -29,5 +29,5 @@ pub extern "C" fn room_step(state: &mut [u32], record: &[u8], out: &mut [u8]) ->
         ≡ callOf (now (state .entry)) (now («record» .entry)) (now (out .entry)) ⌝ }
 {
     let stepped = step::step(state, record, out);
-    answer(stepped.written, stepped.refusal)
+    step_number(stepped.written, stepped.refusal)
 }

@@ -6,11 +6,12 @@ ghost use mathlib.Core.Path.{_≡_};
 ghost use Rattle.waiting_for.specs.Row.{waitingRow};
 ghost use Rattle.calls.specs.WaitingCalls.{numberOf};
 
+// The values of the answers that name no office.
 const MET: u16 = 16;
 
 const NOBODY: u16 = 17;
 
-fn number(w: Waiting) -> u32
+fn waiting_number(w: Waiting) -> u32
     ensures { λ r. ⌜ r ≡ numberOf w ⌝ }
 {
     match w {
@@ -26,5 +27,5 @@ fn number(w: Waiting) -> u32
 pub extern "C" fn room_waiting_for(state: &[u32]) -> u32
     ensures { λ r. ⌜ r ≡ numberOf (waitingRow (now (state .entry))) ⌝ }
 {
-    number(waiting_for(state))
+    waiting_number(waiting_for(state))
 }

@@ -1,4 +1,7 @@
-pub mod Exits
-pub mod Reading
-pub mod Passing
-pub mod Turns
+-- checks
+mod Reading
+-- sheet_pass
+mod Counting
+mod Passing
+-- the answer, in lib.rt
+mod Exits

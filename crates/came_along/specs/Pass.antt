@@ -1,5 +1,5 @@
 -- What the pass has found after some records, by the plain definitions; and the change that one record makes.
-use mathlib.Core.Bool.{_&&_}
+use mathlib.Core.Bool.{Bool, _&&_}
 use mathlib.Core.List.{List, map}
 use Prim.Native.Nat.{ℕ}
 use lib.ListN.{getD}
@@ -21,7 +21,13 @@ abbrev pub nobody : Found
 nobody = record { missing = record { bits = 0 }; same = record { bits = 0 } }
 
 unfoldable pub passOf : View → ℕ → List (List ℕ) → Passed
-passOf v previous bs = let n = firstBad bs in record { refusal = n; found = ifb (eqb n 0) (foundAfter v previous (map decodeSync bs)) nobody }
+passOf v previous bs =
+    let n = firstBad bs in
+    record { refusal = n; found = ifb (eqb n 0) (foundAfter v previous (map decodeSync bs)) nobody }
+
+-- whether a record counts, by the start numbers of a view and the seats whose record is missing so far
+abbrev pub isFirst : List ℕ → ℕ → Sync → Bool
+isFirst starts missing r = containsOf missing (r .seat) && eqb (r .start) (getD starts (officeOf (r .seat)) 0)
 
 -- a record that counts: its seat is missing no more, and is among the others if it names the number
 abbrev pub countedIn : ℕ → Found → Sync → Found
@@ -31,6 +37,5 @@ countedIn previous f r =
       same = record { bits = ifb (eqb (r .previous) previous) (insertOf (f .same .bits) (r .seat)) (f .same .bits) };
     }
 
-unfoldable pub turnOf : List ℕ → ℕ → Found → Sync → Found
-turnOf starts previous f r =
-    ifb (containsOf (f .missing .bits) (r .seat) && eqb (r .start) (getD starts (officeOf (r .seat)) 0)) (countedIn previous f r) f
+unfoldable pub countRecord : List ℕ → ℕ → Found → Sync → Found
+countRecord starts previous f r = ifb (isFirst starts (f .missing .bits) r) (countedIn previous f r) f

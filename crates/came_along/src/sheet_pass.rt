@@ -1,4 +1,4 @@
-// One pass over a sheet: the members whose record is missing, and those whose record names the number; inner to the sheet.
+// One pass over a sheet: the members whose record is missing, and those whose record names the number.
 use crate::checks::read_record;
 use records::Sync;
 use records::View;
@@ -9,7 +9,7 @@ ghost use mathlib.Core.Path.{_≡_};
 ghost use Prim.Native.Nat.{_<_};
 ghost use Rattle.seats.specs.Seats.{seatCount};
 ghost use Rattle.sheet.specs.Sheet.{recordsOn};
-ghost use Rattle.came_along.specs.Pass.{turnOf, passOf};
+ghost use Rattle.came_along.specs.Pass.{isFirst, countedIn, countRecord, passOf};
 
 // The members whose record has not come yet, and those whose record names the number.
 pub struct Found {
@@ -23,17 +23,22 @@ pub struct Passed {
     pub found: Found,
 }
 
-// One record more. A seat is missing until its first record that counts; a later one finds it gone.
-fn turn(found: Found, starts: &[u32; 16], previous: u32, sync: Sync) -> Found
+// Whether a record counts: its seat's has not come yet, and its start number is the view's for that seat's office.
+fn is_first(missing: SeatSet, starts: &[u32; 16], sync: Sync) -> bool
     requires { ⌜ sync .seat < seatCount ⌝ }
-    ensures { λ r. ⌜ r ≡ turnOf (now (starts .entry)) previous found sync ⌝ }
+    ensures { λ r. ⌜ r ≡ isFirst (now (starts .entry)) (missing .bits) sync ⌝ }
+{
+    let seat = sync.seat;
+    missing.contains(seat) & (sync.start == starts[office_of(seat) as usize])
+}
+
+// A record that counts: its seat is missing no more, and is among the others if it names the number.
+fn counted_in(found: Found, previous: u32, sync: Sync) -> Found
+    ensures { λ r. ⌜ r ≡ countedIn previous found sync ⌝ }
 {
     let seat = sync.seat;
     let missing = found.missing;
     let same = found.same;
-    if !(missing.contains(seat) & (sync.start == starts[office_of(seat) as usize])) {
-        return found;
-    }
     let left = missing.remove(seat);
     if sync.previous != previous {
         return Found {
@@ -46,6 +51,17 @@ fn turn(found: Found, starts: &[u32; 16], previous: u32, sync: Sync) -> Found
         missing: left,
         same: more,
     }
+}
+
+// One record more. A seat is missing until its first record that counts; a later one finds it gone.
+fn count_record(found: Found, starts: &[u32; 16], previous: u32, sync: Sync) -> Found
+    requires { ⌜ sync .seat < seatCount ⌝ }
+    ensures { λ r. ⌜ r ≡ countRecord (now (starts .entry)) previous found sync ⌝ }
+{
+    if is_first(found.missing, starts, sync) {
+        return counted_in(found, previous, sync);
+    }
+    found
 }
 
 // Each record is a part of the sheet itself.
@@ -72,7 +88,7 @@ pub fn pass(sheet: &[u8], v: View, previous: u32) -> Passed
                 },
             };
         }
-        found = turn(found, &starts, previous, read.sync);
+        found = count_record(found, &starts, previous, read.sync);
         k += 1;
     }
     Passed { refusal: 0, found }

@@ -1,4 +1,4 @@
--- What makes a seat accept a notice and a view, as plain facts, and the bytes that the record writer makes of them.
+-- hearing: what makes a seat accept a notice and a view, as plain facts, and the bytes that the record writer makes.
 use mathlib.Core.Path.{_≡_, sym, _∙_}
 use mathlib.Core.Bool.{true, false}
 use Prim.Native.Nat.{ℕ, _≤_, _<_}
@@ -8,7 +8,7 @@ use borrow.Author.Tests.{le-ltb, lt-leb, eq-eqb}
 use Rattle.laws.specs.Checks.{firstOf}
 use Rattle.laws.proofs.Fin.{or-out}
 use Rattle.seats.specs.Seats.{seatCount, containsOf}
-use Rattle.seats.specs.Offices.{officeOf, serves}
+use Rattle.seats.specs.Offices.{serves}
 use Rattle.records.specs.Numbers.{limit}
 use Rattle.records.proofs.NumberLaws.{none-above, stray-in}
 use Rattle.records.specs.Layout.{encodeNotice, encodeView}
@@ -17,9 +17,10 @@ use Rattle.records.specs.declared.Notice.{Notice}
 use Rattle.records.specs.declared.View.{View}
 use Rattle.records.proofs.RoundTrip.{notice-back, notice-passes, view-back, view-passes}
 use Rattle.desk.specs.declared.checks.Desk.{Desk}
-use Rattle.desk.specs.SeatChecks.{aNotice, aView, tooHigh, lacksSeat, seatChecks}
+use Rattle.desk.specs.Views.{startFor}
+use Rattle.desk.specs.SeatChecks.{aNotice, aView, seatAbove, tooHigh, lacksSeat, seatChecks}
 use Rattle.desk.specs.Hearing.{afterRecord, hearOf}
-use Rattle.desk.proofs.Laws.{by-notice, by-view, other-mark, hear-accepted}
+use Rattle.desk.proofs.HearingLaws.{by-notice, by-view, other-mark, hear-accepted}
 use Rattle.desk.proofs.Reasons.{notice-0, view-0}
 
 -- the seat's own numbers pass 6 and 8
@@ -40,32 +41,38 @@ pub record TakesView (d : Desk) (v : View) : Type 0 where
   pub member : containsOf (v .members .bits) (d .seat) ≡ true
   pub outside : (o : ℕ) → o < 16 → serves (v .members .bits) o ≡ false → getD (v .starts) o 0 ≡ 0
   pub changing : d .changing ≡ true
-  pub own : getD (v .starts) (officeOf (d .seat)) 0 ≡ d .start
+  pub own : startFor v (d .seat) ≡ d .start
   pub above : d .start < v .number
 
 module _ (d : Desk) (s : SoundDesk d) where
+  own-low : seatAbove d ≡ false
+  own-low = or-out _ _ (le-ltb limit (d .start) (s .start)) (le-ltb limit (d .view) (s .view))
+
   notice-accepted : (n : Notice) → TakesNotice d n → firstOf (seatChecks d (aNotice n)) ≡ 0
   unfolding tooHigh lacksSeat
   notice-accepted n t = sym (notice-0 d n
-      (or-out _ _ (or-out _ _ (le-ltb limit (n .start) (t .within)) (le-ltb limit (d .start) (s .start))) (le-ltb limit (d .view) (s .view)))
+      (or-out _ _ (le-ltb limit (n .start) (t .within)) own-low)
       (rw (t .member))
       (or-out _ _ (lt-leb (n .start) (d .start) (t .above)) (le-ltb (n .start) (d .view) (t .reaches))))
 
   view-accepted : (v : View) → TakesView d v → firstOf (seatChecks d (aView v)) ≡ 0
   unfolding tooHigh lacksSeat
   view-accepted v t = sym (view-0 d v
-      (or-out _ _ (or-out _ _ (or-out _ _ (le-ltb limit (v .number) (t .within)) (none-above (v .starts) (t .starts)))
-      (le-ltb limit (d .start) (s .start))) (le-ltb limit (d .view) (s .view)))
+      (or-out _ _ (or-out _ _ (le-ltb limit (v .number) (t .within)) (none-above (v .starts) (t .starts))) own-low)
       (rw (t .member)) (stray-in (v .starts) (v .members .bits) (t .outside))
-      (rw (t .changing, eq-eqb (getD (v .starts) (officeOf (d .seat)) 0) (d .start) (t .own))) (t .above))
+      (rw (t .changing, eq-eqb (startFor v (d .seat)) (d .start) (t .own)))
+      (lt-leb (v .number) (d .start) (t .above)))
 
-  pub notice-heard : (n : Notice) → FitsNotice n → TakesNotice d n → hearOf d (encodeNotice n) ≡ record { refusal = 0; desk = afterRecord d (aNotice n) }
+  pub notice-heard : (n : Notice) → FitsNotice n → TakesNotice d n
+      → hearOf d (encodeNotice n) ≡ record { refusal = 0; desk = afterRecord d (aNotice n) }
   notice-heard n f t =
       let c = notice-passes n in
       let r = by-notice (encodeNotice n) (λ e. let z = sym c ∙ e in omega arith) in
-      rw (notice-back n f) at (hear-accepted d (encodeNotice n) (s .seat) r c (rw (notice-back n f) (notice-accepted n t)))
+      rw (notice-back n f) at
+      (hear-accepted d (encodeNotice n) (s .seat) r c (rw (notice-back n f) (notice-accepted n t)))
 
-  pub view-heard : (v : View) → FitsView v → TakesView d v → hearOf d (encodeView v) ≡ record { refusal = 0; desk = afterRecord d (aView v) }
+  pub view-heard : (v : View) → FitsView v → TakesView d v
+      → hearOf d (encodeView v) ≡ record { refusal = 0; desk = afterRecord d (aView v) }
   view-heard v f t =
       let c = view-passes v f in
       let r = by-view (encodeView v) (other-mark (encodeView v) c) in

@@ -1,6 +1,9 @@
-pub mod Accepted
-pub mod Laws
+-- checks
+mod Reasons
+-- making and hearing
+pub mod HearingLaws
 mod Readers
-pub mod SyncLaws
+pub mod Accepted
 pub mod Taken
-pub mod Reasons
+-- syncing
+pub mod SyncLaws

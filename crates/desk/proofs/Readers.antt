@@ -1,4 +1,4 @@
--- What the two readers tell of bytes: the notices' reader first, and the views' where the mark is not a notice's.
+-- hearing: what the two readers tell of bytes: the notices' first, and the views' where the mark is not a notice's.
 use mathlib.Core.Path.{_≡_, sym, ap, _∙_}
 use mathlib.Core.List.{List}
 use Prim.Native.Nat.{ℕ}
@@ -9,10 +9,11 @@ use Rattle.record_bytes.specs.declared.views.ViewRead.{ViewRead}
 use Rattle.record_bytes.specs.views.Read.{readView}
 use Rattle.record_bytes.proofs.views.Reading.{view-refusal, view-decoded}
 use Rattle.desk.specs.SeatChecks.{aNotice, aView}
-use Rattle.desk.proofs.Laws.{SeatRead, by-notice, by-view}
+use Rattle.desk.proofs.HearingLaws.{SeatRead, by-notice, by-view}
 
 module _ (b : List ℕ) where
-  pub notice-read : (r : NoticeRead) → r ≡ readNotice b → (r .refusal ≡ 4 → ⊥) → SeatRead b (r .refusal) (aNotice (r .notice))
+  pub notice-read : (r : NoticeRead) → r ≡ readNotice b → (r .refusal ≡ 4 → ⊥)
+      → SeatRead b (r .refusal) (aNotice (r .notice))
   notice-read r e h =
       let t = by-notice b (λ f. h (ap (λ (x : NoticeRead). x .refusal) e ∙ notice-refusal b ∙ f)) in
       rw e (record {
@@ -20,7 +21,8 @@ module _ (b : List ℕ) where
         is = λ z. t .is (sym (notice-refusal b) ∙ z) ∙ ap aNotice (sym (notice-decoded b z));
       })
 
-  pub view-read : (r : ViewRead) → r ≡ readView b → readNotice b .refusal ≡ 4 → SeatRead b (r .refusal) (aView (r .view))
+  pub view-read : (r : ViewRead) → r ≡ readView b → readNotice b .refusal ≡ 4
+      → SeatRead b (r .refusal) (aView (r .view))
   view-read r e h =
       let t = by-view b (sym (notice-refusal b) ∙ h) in
       rw e (record {

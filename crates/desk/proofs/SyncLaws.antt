@@ -1,4 +1,4 @@
--- The bytes of a seat's sync record, and the record that they are.
+-- syncing: the bytes of a seat's sync record, and the record that they are.
 use mathlib.Core.Path.{_≡_, _∙_, ap}
 use mathlib.Core.List.{[]}
 use Prim.Native.Nat.{_≤_, _<_}
@@ -27,4 +27,5 @@ module _ (d : Desk) where
       let a = s .start in
       let b = s .view in
       let c = s .seat in
-      ap decodeSync (sync-made c) ∙ sync-back (syncOf d) (record { seat = omega arith; start = omega arith; previous = omega arith })
+      ap decodeSync (sync-made c)
+      ∙ sync-back (syncOf d) (record { seat = omega arith; start = omega arith; previous = omega arith })

@@ -1,6 +1,7 @@
--- What a seat that has accepted a view tells: its own numbers are sound, a change was open with the view's start number, and it is closed then.
+-- hearing: what a seat that has accepted a view tells: its own numbers are sound, a change was open with the view's
+-- start number, and it is closed then.
 use mathlib.Core.Path.{_≡_, sym, _∙_}
-use mathlib.Core.Bool.{true, false, not, _||_}
+use mathlib.Core.Bool.{true, false, not}
 use mathlib.Core.List.{List, _∷_}
 use Prim.Native.Nat.{ℕ, _<_}
 use native.Mathlib.Omega.{arith}
@@ -16,9 +17,10 @@ use Rattle.records.specs.Layout.{noticeMark, noticeLength, checkOwn, checkFor, 
 use Rattle.records.specs.declared.View.{View}
 use Rattle.records.proofs.CheckLaws.{long-mark}
 use Rattle.desk.specs.declared.checks.Desk.{Desk}
-use Rattle.desk.specs.SeatChecks.{aView, recordAbove, tooHigh, lacksSeat, strayStart, startFor, unawaitedView, seatChecks}
+use Rattle.desk.specs.Views.{viewAbove, startFor}
+use Rattle.desk.specs.SeatChecks.{aView, seatAbove, tooHigh, lacksSeat, strayStart, unawaitedView, seatChecks}
 use Rattle.desk.specs.Hearing.{seatRecordOf, checkSeatRecord, hearChecks, afterRecord, hearOf}
-use Rattle.desk.proofs.Laws.{by-view}
+use Rattle.desk.proofs.HearingLaws.{by-view}
 use Rattle.desk.proofs.Accepted.{SoundDesk}
 
 pub record TookView (d : Desk) (b : List ℕ) : Type 0 where
@@ -51,7 +53,9 @@ module _ (d : Desk) (b : List ℕ) where
     is-view = let r = by-view b other in r .is (sym (r .number) ∙ no-reason (checkSeatRecord b) _ behind-6 .0)
 
     of-view : firstOf (seatChecks d (aView (decodeView b))) ≡ 0
-    of-view = let e : firstOf (seatChecks d (seatRecordOf b)) ≡ 0 = no-reason (checkSeatRecord b) _ behind-6 .1 in rw is-view at e
+    of-view =
+        let e : firstOf (seatChecks d (seatRecordOf b)) ≡ 0 = no-reason (checkSeatRecord b) _ behind-6 .1 in
+        rw is-view at e
 
     low : tooHigh d (aView (decodeView b)) ≡ false
     unfolding seatChecks
@@ -61,17 +65,21 @@ module _ (d : Desk) (b : List ℕ) where
     unfolding seatChecks
     awaited =
         let nine = first-none (tooHigh d (aView (decodeView b))) 7 _ .0 of-view .1 in
-        let ten = first-none (lacksSeat d (aView (decodeView b))) 8 _ .0 nine .1 in
+        let ten = first-none (lacksSeat (decodeView b .members .bits) (d .seat)) 8 _ .0 nine .1 in
         let later = first-none (strayStart (aView (decodeView b))) 9 _ .0 ten .1 in
         first-none (unawaitedView d (aView (decodeView b))) 14 _ .0 later .0
 
+    own-low : seatAbove d ≡ false
+    unfolding tooHigh
+    own-low = or-r (viewAbove (decodeView b)) _ low
+
     pub took-view : TookView d b
-    unfolding tooHigh afterRecord hearOf
+    unfolding afterRecord hearOf
     took-view = record {
       sound = record {
         seat = below;
-        start = ltb-false limit (d .start) (or-r (recordAbove (aView (decodeView b))) _ (or-l _ (ltb limit (d .view)) low));
-        view = ltb-false limit (d .view) (or-r (recordAbove (aView (decodeView b)) || ltb limit (d .start)) _ low);
+        start = ltb-false limit (d .start) (or-l _ (ltb limit (d .view)) own-low);
+        view = ltb-false limit (d .view) (or-r (ltb limit (d .start)) _ own-low);
       };
       changing = not-false (d .changing) (or-l _ _ awaited);
       own = eqb-true _ _ (not-false _ (or-r (not (d .changing)) _ awaited));

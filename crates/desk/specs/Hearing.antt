@@ -1,4 +1,5 @@
--- What a seat makes of a start notice or a view: the reasons to refuse, in the order of change request 3, and what an accepted one leaves.
+-- What a seat makes of a start notice or a view: the reasons to refuse, in the order of change request 3, and what an
+-- accepted one leaves.
 use mathlib.Core.Bool.{true, false}
 use mathlib.Core.List.{List, _∷_}
 use Prim.Native.Nat.{ℕ}
@@ -6,7 +7,8 @@ use lib.Dec.{eqb, leb}
 use Rattle.laws.specs.Checks.{Check, numbered, firstOf}
 use Rattle.laws.specs.Upd.{ifb}
 use Rattle.seats.specs.Seats.{seatCount}
-use Rattle.records.specs.Layout.{noticeMark, noticeLength, viewMark, viewLength, valueOf, markOf, checkEither, decodeNotice, decodeView}
+use Rattle.records.specs.Layout.{noticeMark, noticeLength, viewMark, viewLength, valueOf, markOf, checkEither}
+use Rattle.records.specs.Layout.{decodeNotice, decodeView}
 use Rattle.desk.specs.declared.checks.Desk.{Desk}
 use Rattle.desk.specs.SeatChecks.{SeatRecord, aNotice, aView, seatChecks}
 use Rattle.desk.specs.declared.Heard.{Heard}
@@ -17,7 +19,9 @@ freshDesk seat = record { seat = seat; start = 0; view = 0; changing = false }
 
 -- 6, when a seat above 63 is made: the fresh seat 0 comes back with the number
 unfoldable pub madeDesk : ℕ → Heard
-madeDesk seat = ifb (leb seatCount seat) (record { refusal = 6; desk = freshDesk 0 }) (record { refusal = 0; desk = freshDesk seat })
+madeDesk seat =
+    ifb (leb seatCount seat) (record { refusal = 6; desk = freshDesk 0 })
+    (record { refusal = 0; desk = freshDesk seat })
 
 unfoldable pub seatRecordOf : List ℕ → SeatRecord
 seatRecordOf b = ifb (eqb (markOf b) (valueOf noticeMark)) (aNotice (decodeNotice b)) (aView (decodeView b))

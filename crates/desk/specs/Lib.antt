@@ -1,3 +1,8 @@
-pub mod Hearing
-pub mod Syncing
+-- views
+pub mod Views
+-- checks
 pub mod SeatChecks
+-- making and hearing
+pub mod Hearing
+-- syncing
+pub mod Syncing

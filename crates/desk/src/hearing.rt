@@ -5,18 +5,45 @@ use crate::checks::notice_refusal;
 use crate::checks::view_refusal;
 use record_bytes::notices::read_notice;
 use record_bytes::views::read_view;
+use records::Notice;
+use records::View;
 use seats::SEATS;
 ghost use mathlib.Core.Path.{_≡_};
 ghost use Prim.Native.Nat.{_<_};
 ghost use Rattle.record_bytes.specs.notices.Read.{readNotice};
 ghost use Rattle.seats.specs.Seats.{seatCount};
-ghost use Rattle.desk.specs.Hearing.{hearOf};
+ghost use Rattle.desk.specs.SeatChecks.{aNotice, aView};
+ghost use Rattle.desk.specs.Hearing.{afterRecord, hearOf};
 
 // The state handed in comes back with the number.
 fn refuse(desk: Desk, refusal: u8) -> Heard
     ensures { λ r. ⌜ r ≡ record { refusal = refusal; desk = desk } ⌝ }
 {
     Heard { refusal, desk }
+}
+
+// An accepted notice sets the start number and opens a change.
+fn after_notice(desk: Desk, n: Notice) -> Desk
+    ensures { λ r. ⌜ r ≡ afterRecord desk (aNotice n) ⌝ }
+{
+    Desk {
+        seat: desk.seat,
+        start: n.start,
+        view: desk.view,
+        changing: true,
+    }
+}
+
+// An accepted view sets the view number and closes the change.
+fn after_view(desk: Desk, v: View) -> Desk
+    ensures { λ r. ⌜ r ≡ afterRecord desk (aView v) ⌝ }
+{
+    Desk {
+        seat: desk.seat,
+        start: desk.start,
+        view: v.number,
+        changing: false,
+    }
 }
 
 // Bytes that have no notice's mark: the reader of views has the word.
@@ -34,12 +61,7 @@ fn hear_view(desk: Desk, bytes: &[u8]) -> Heard
     }
     Heard {
         refusal: 0,
-        desk: Desk {
-            seat: desk.seat,
-            start: desk.start,
-            view: read.view.number,
-            changing: false,
-        },
+        desk: after_view(desk, read.view),
     }
 }
 
@@ -63,11 +85,6 @@ pub fn hear(desk: Desk, bytes: &[u8]) -> Heard
     }
     Heard {
         refusal: 0,
-        desk: Desk {
-            seat: desk.seat,
-            start: told.notice.start,
-            view: desk.view,
-            changing: true,
-        },
+        desk: after_notice(desk, told.notice),
     }
 }

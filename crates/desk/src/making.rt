@@ -5,7 +5,7 @@ use seats::SEATS;
 ghost use mathlib.Core.Path.{_≡_};
 ghost use Rattle.desk.specs.Hearing.{freshDesk, madeDesk};
 
-fn fresh(seat: u8) -> Desk
+fn fresh_desk(seat: u8) -> Desk
     ensures { λ r. ⌜ r ≡ freshDesk seat ⌝ }
 {
     Desk {
@@ -23,11 +23,11 @@ pub fn fresh_seat(seat: u8) -> Heard
     if SEATS <= seat {
         return Heard {
             refusal: 6,
-            desk: fresh(0),
+            desk: fresh_desk(0),
         };
     }
     Heard {
         refusal: 0,
-        desk: fresh(seat),
+        desk: fresh_desk(seat),
     }
 }

@@ -22,12 +22,12 @@ use Rattle.rules.specs.Rules.{Written, notice, proposal, view, fresh}
 use Rattle.rules.specs.Refusals.{bytesOf}
 use Rattle.runs.specs.Office.{Input, logOf, sentIn}
 use Rattle.desk.specs.declared.checks.Desk.{Desk}
-use Rattle.desk.specs.SeatChecks.{startFor}
+use Rattle.desk.specs.Views.{startFor}
 use Rattle.desk.specs.declared.Heard.{Heard}
 use Rattle.desk.specs.Hearing.{freshDesk, hearOf}
 use Rattle.desk.specs.Syncing.{syncOf, syncBytes}
 use Rattle.desk.proofs.Accepted.{SoundDesk}
-use Rattle.desk.proofs.Laws.{seat-stays}
+use Rattle.desk.proofs.HearingLaws.{seat-stays}
 use Rattle.desk.proofs.SyncLaws.{sync-made, sync-read}
 use Rattle.desk.proofs.Taken.{TookView, took-view, view-other}
 use Rattle.sheet.specs.declared.Along.the-variants as answers

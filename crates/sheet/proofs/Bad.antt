@@ -1,4 +1,4 @@
--- The number of the first bad record.
+-- Sheet: the number of the first bad record.
 use mathlib.Core.Path.{_≡_, refl}
 use mathlib.Core.List.{List, [], _∷_, _++_}
 use Prim.Native.Nat.{ℕ}
@@ -31,6 +31,7 @@ pub bad-one : (r : List ℕ) → firstBad (r ∷ []) ≡ firstOf (syncChecks r)
 unfolding firstBad
 bad-one r = go (ℕ-discrete (firstOf (syncChecks r)) 0)
   where
-    go : Dec (firstOf (syncChecks r) ≡ 0) → ifb (eqb (firstOf (syncChecks r)) 0) 0 (firstOf (syncChecks r)) ≡ firstOf (syncChecks r)
+    go : Dec (firstOf (syncChecks r) ≡ 0)
+        → ifb (eqb (firstOf (syncChecks r)) 0) 0 (firstOf (syncChecks r)) ≡ firstOf (syncChecks r)
     go (yes e) = rw e
     go (no n) = rw (ne-eqb (firstOf (syncChecks r)) 0 n)

@@ -1,4 +1,4 @@
--- What is answered at each of the exits: the view unread; 8, 10 or 17; a bad record; an answer.
+-- Answers: what is answered at each of the exits: the view unread; 8, 10 or 17; a bad record; an answer.
 use mathlib.Core.Path.{_≡_, ap}
 use mathlib.Core.List.{List, map}
 use Prim.Native.Nat.{ℕ, _+_}
@@ -12,7 +12,7 @@ use Rattle.records.specs.declared.Sync.{Sync}
 use Rattle.sheet.specs.declared.Along.the-variants as answers
 use Rattle.sheet.specs.Sheet.{recordsOn, answerFrom, askChecks, firstBad, alongChecks, cameAlong, alongValue}
 use Rattle.sheet.specs.Answers.{Tells}
-use Rattle.sheet.proofs.Laws.{tells}
+use Rattle.sheet.proofs.AnswerLaws.{tells}
 
 module _ (sheet view : List ℕ) (previous : ℕ) where
   abbrev unread : ℕ
@@ -50,7 +50,8 @@ module _ (sheet view : List ℕ) (previous : ℕ) where
       along-tells z = rw (along-good z) (tells (decodeView view) records previous)
 
   -- a seat that is answered as missing is one: no check applied
-  pub missing-tells : (seat : ℕ) → cameAlong sheet view previous ≡ answers.Missing seat → Tells (decodeView view) records previous (answers.Missing seat)
+  pub missing-tells : (seat : ℕ) → cameAlong sheet view previous ≡ answers.Missing seat
+      → Tells (decodeView view) records previous (answers.Missing seat)
   unfolding cameAlong alongValue
   missing-tells seat e = go (ℕ-discrete (firstOf (alongChecks sheet view previous)) 0)
     where

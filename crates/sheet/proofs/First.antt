@@ -1,4 +1,4 @@
--- The first record that counts for a seat.
+-- Sheet: the first record that counts for a seat.
 use mathlib.Core.Path.{_≡_, refl, sym, ap, _∙_}
 use mathlib.Core.Bool.{Bool, true, false, not, _&&_, _||_, or-false, true≢false}
 use mathlib.Core.List.{List, [], _∷_, _++_}
@@ -27,12 +27,14 @@ module _ (v : View) (seat : ℕ) where
   for-append (r ∷ a) b = go (counts v seat r) (for-append a b)
     where
       go : (t : Bool) → recordFor v seat (a ++ b) ≡ orElse (recordFor v seat a) (recordFor v seat b)
-          → ifb t (some r) (recordFor v seat (a ++ b)) ≡ orElse (ifb t (some r) (recordFor v seat a)) (recordFor v seat b)
+          → ifb t (some r) (recordFor v seat (a ++ b))
+          ≡ orElse (ifb t (some r) (recordFor v seat a)) (recordFor v seat b)
       go true e = refl
       go false e = e
 
   -- one record more: it is the seat's where it counts and none before it does
-  pub missing-next : (rs : List Sync) (r : Sync) → missing (recordFor v seat (rs ++ (r ∷ []))) ≡ missing (recordFor v seat rs) && not (counts v seat r)
+  pub missing-next : (rs : List Sync) (r : Sync)
+      → missing (recordFor v seat (rs ++ (r ∷ []))) ≡ missing (recordFor v seat rs) && not (counts v seat r)
   unfolding recordFor
   missing-next rs r = rw (for-append rs (r ∷ [])) (go (recordFor v seat rs) (counts v seat r))
     where
@@ -43,12 +45,14 @@ module _ (v : View) (seat : ℕ) where
 
   pub names-next : (previous : ℕ) (rs : List Sync) (r : Sync)
       → names previous (recordFor v seat (rs ++ (r ∷ [])))
-      ≡ names previous (recordFor v seat rs) || missing (recordFor v seat rs) && counts v seat r && eqb (r .previous) previous
+      ≡ names previous (recordFor v seat rs)
+      || missing (recordFor v seat rs) && counts v seat r && eqb (r .previous) previous
   unfolding recordFor
   names-next previous rs r = rw (for-append rs (r ∷ [])) (go (recordFor v seat rs) (counts v seat r))
     where
       go : (o : Option Sync) (t : Bool)
-          → names previous (orElse o (ifb t (some r) none)) ≡ names previous o || missing o && t && eqb (r .previous) previous
+          → names previous (orElse o (ifb t (some r) none))
+          ≡ names previous o || missing o && t && eqb (r .previous) previous
       go none true = refl
       go none false = refl
       go (some q) t = sym (or-false (eqb (q .previous) previous))
@@ -84,7 +88,8 @@ module _ (v : View) (seat : ℕ) where
       go : (t : Bool) → counts v seat r ≡ t → missing (ifb t (some r) (recordFor v seat rs)) ≡ false
           → (missing (recordFor v seat rs) ≡ false → (f : FirstFor v rs seat) × (recordFor v seat rs ≡ some (f .it)))
           → (f : FirstFor v (r ∷ rs) seat) × (ifb t (some r) (recordFor v seat rs) ≡ some (f .it))
-      go true d e ih = (record { before = []; it = r; after = rs; on-sheet = refl; none-before = none; it-counts = d }, refl)
+      go true d e ih =
+          (record { before = []; it = r; after = rs; on-sheet = refl; none-before = none; it-counts = d }, refl)
       go false d e ih = let w = ih e in (later d (w .0), w .1)
 
 -- a record counts for its own seat alone
@@ -98,7 +103,8 @@ counts-other v seat r n = rw (ne-eqb (r .seat) seat n)
 
 module _ (v : View) (seat : ℕ) where
   -- neighbours of different seats may change places
-  pub exchanged : (r q : Sync) (b : List Sync) → (r .seat ≡ q .seat → ⊥) → recordFor v seat (r ∷ q ∷ b) ≡ recordFor v seat (q ∷ r ∷ b)
+  pub exchanged : (r q : Sync) (b : List Sync) → (r .seat ≡ q .seat → ⊥)
+      → recordFor v seat (r ∷ q ∷ b) ≡ recordFor v seat (q ∷ r ∷ b)
   unfolding recordFor
   exchanged r q b n = go (counts v seat r) (counts v seat q) refl refl
     where

@@ -1,9 +1,11 @@
--- The laws of a sheet and of what it answers.
+-- Sheet: its records, the first bad one, a seat's first that counts
 pub mod Records
 pub mod Bad
-pub mod Days
-pub mod Exits
 pub mod First
-pub mod Laws
 pub mod Members
+-- Answers: what an answer tells, at which exit, and which sheets answer the same
+pub mod AnswerLaws
+pub mod Exits
 pub mod Sheets
+-- Days
+pub mod Days

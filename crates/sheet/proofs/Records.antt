@@ -1,4 +1,4 @@
--- A sheet cut into its records: some and then more, and a sheet in parts.
+-- Sheet: a sheet cut into its records: some and then more, and a sheet in parts.
 use mathlib.Core.Path.{_≡_, ap, _∙_}
 use mathlib.Core.List.{List, [], _∷_, _++_}
 use Prim.Native.Nat.{ℕ, zero, suc, _+_, _*_, _/_}
@@ -9,19 +9,23 @@ use Rattle.records.specs.Layout.{syncLength}
 use Rattle.sheet.specs.Sheet.{recordsIn, recordsOn}
 
 -- m records, and n from there on
-pub records-split : (m n : ℕ) (s : List ℕ) → recordsIn (m + n) s ≡ recordsIn m s ++ recordsIn n (drop (m * syncLength) s)
+pub records-split : (m n : ℕ) (s : List ℕ)
+    → recordsIn (m + n) s ≡ recordsIn m s ++ recordsIn n (drop (m * syncLength) s)
 unfolding recordsIn
 records-split zero n s = let z : 0 + n ≡ n = omega arith in rw z
 records-split (suc m) n s =
     let z : suc m + n ≡ suc (m + n) = omega arith in
     let e : suc m * syncLength ≡ syncLength + m * syncLength = omega arith in
-    rw (z, e, ← drop-drop (m * syncLength) syncLength s) (ap (λ (l : List (List ℕ)). take syncLength s ∷ l) (records-split m n (drop syncLength s)))
+    rw (z, e, ← drop-drop (m * syncLength) syncLength s)
+    (ap (λ (l : List (List ℕ)). take syncLength s ∷ l) (records-split m n (drop syncLength s)))
 
-pub records-next : (n : ℕ) (s : List ℕ) → recordsIn (n + 1) s ≡ recordsIn n s ++ (take syncLength (drop (n * syncLength) s) ∷ [])
+pub records-next : (n : ℕ) (s : List ℕ)
+    → recordsIn (n + 1) s ≡ recordsIn n s ++ (take syncLength (drop (n * syncLength) s) ∷ [])
 unfolding recordsIn
 records-next n s = records-split n 1 s
 
-records-join : (m n : ℕ) (a b : List ℕ) → length a ≡ m * syncLength → recordsIn (m + n) (a ++ b) ≡ recordsIn m a ++ recordsIn n b
+records-join : (m n : ℕ) (a b : List ℕ) → length a ≡ m * syncLength
+    → recordsIn (m + n) (a ++ b) ≡ recordsIn m a ++ recordsIn n b
 unfolding recordsIn
 records-join zero n [] b e = let z : 0 + n ≡ n = omega arith in rw z
 records-join zero n (x ∷ a) b e = absurd (omega arith)

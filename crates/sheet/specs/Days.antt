@@ -1,4 +1,5 @@
--- Sheets of three desks: seats 0 and 1 at office 0 and seat 4 at office 1; what the definition gives, and what is to be said.
+-- Sheets of three desks: seats 0 and 1 at office 0 and seat 4 at office 1; what the definition gives, and what is to
+-- be said.
 use mathlib.Core.List.{List, [], _∷_, _++_, flatten}
 use Prim.Native.Nat.{ℕ, _+_}
 use lib.ListN.{take, replicate}
@@ -10,20 +11,25 @@ use Rattle.laws.specs.Tab.{tab}
 use Rattle.seats.specs.Seats.{has, containsOf}
 use Rattle.seats.specs.Offices.{officeOf, serves, packed}
 use Rattle.records.specs.Numbers.{limit}
-use Rattle.records.specs.Layout.{encodeNotice, encodeView, encodeSync, decodeView, decodeSync, markOf, checkFor, checkOwn}
+use Rattle.records.specs.Layout.{encodeNotice, encodeView, encodeSync, decodeView, decodeSync, markOf, checkFor}
+use Rattle.records.specs.Layout.{checkOwn}
 use Rattle.sheet.specs.declared.Along.{Along}
 use Rattle.sheet.specs.declared.Along.the-variants as answers
-use Rattle.sheet.specs.Sheet.{recordsIn, counts, recordFor, lacksRecord, namesSame, answerFrom, askedAbove, noSheet, askChecks, syncChecks, firstBad, alongChecks, cameAlong}
+use Rattle.sheet.specs.Sheet.{recordsIn, counts, recordFor, lacksRecord, namesSame, answerFrom, askedAbove}
+use Rattle.sheet.specs.Sheet.{noSheet, askChecks, syncChecks, firstBad, alongChecks, cameAlong}
 
 -- the answer; to unfold it is to unfold the definitions
 unfoldable pub answering : List ℕ → List ℕ → ℕ → Along
-unfolding bytesAll bit anyb lowestBelow tab has containsOf officeOf serves packed encodeNotice encodeView encodeSync decodeView decodeSync markOf checkFor
-    checkOwn recordsIn counts recordFor lacksRecord namesSame answerFrom askedAbove noSheet askChecks syncChecks firstBad alongChecks cameAlong
+unfolding bytesAll bit anyb lowestBelow tab has containsOf officeOf serves packed encodeNotice encodeView encodeSync
+    decodeView decodeSync markOf checkFor
+    checkOwn recordsIn counts recordFor lacksRecord namesSame answerFrom askedAbove noSheet askChecks syncChecks
+    firstBad alongChecks cameAlong
 answering sheet view previous = cameAlong sheet view previous
 
 -- a view by its number, its members, and the start numbers of offices 0, 1 and 2
 abbrev viewed : ℕ → ℕ → ℕ → ℕ → ℕ → List ℕ
-viewed number members a b c = encodeView (record { number = number; members = record { bits = members }; starts = a ∷ b ∷ c ∷ tab 13 (λ o. 0) })
+viewed number members a b c =
+    encodeView (record { number = number; members = record { bits = members }; starts = a ∷ b ∷ c ∷ tab 13 (λ o. 0) })
 
 -- the members {0, 1, 4}, with start numbers 3 and 7; the empty view
 abbrev shown : List ℕ
@@ -48,10 +54,13 @@ sync4 = synced 4 7 2
 
 unfoldable pub computedAnswers : List Along
 computedAnswers =
-    answering (sync0 ++ sync1 ++ sync4) shown 2 ∷ answering (sync4 ++ sync1 ++ sync0) shown 2 ∷ answering (sync0 ++ sync1 ++ sync4) shown 1
+    answering (sync0 ++ sync1 ++ sync4) shown 2 ∷ answering (sync4 ++ sync1 ++ sync0) shown 2
+    ∷ answering (sync0 ++ sync1 ++ sync4) shown 1
     ∷ answering (sync0 ++ synced 1 3 1 ++ sync4) shown 2 ∷ answering (sync0 ++ synced 1 3 1 ++ sync4) shown 1
-    ∷ answering (sync0 ++ sync4) shown 2 ∷ answering (sync0 ++ sync1) shown 2 ∷ answering (sync0 ++ sync1 ++ synced 5 7 2) shown 2
-    ∷ answering (sync0 ++ synced 0 3 1 ++ sync1 ++ sync4) shown 2 ∷ answering (synced 0 3 1 ++ sync0 ++ sync1 ++ sync4) shown 2
+    ∷ answering (sync0 ++ sync4) shown 2 ∷ answering (sync0 ++ sync1) shown 2
+    ∷ answering (sync0 ++ sync1 ++ synced 5 7 2) shown 2
+    ∷ answering (sync0 ++ synced 0 3 1 ++ sync1 ++ sync4) shown 2
+    ∷ answering (synced 0 3 1 ++ sync0 ++ sync1 ++ sync4) shown 2
     ∷ answering (synced 0 2 2 ++ sync1 ++ sync4) shown 2 ∷ answering (synced 0 2 1 ++ sync0 ++ sync1 ++ sync4) shown 2
     ∷ answering [] shown 2 ∷ answering [] empty 2 ∷ answering (sync0 ++ synced 9 0 2) empty 2
     ∷ answering (synced 63 0 limit) (viewed limit 0 0 0 0) limit
@@ -80,17 +89,21 @@ statedAnswers =
 
 unfoldable pub computedRefusals : List Along
 computedRefusals =
-    answering [] [] 2 ∷ answering [] (0x4e ∷ 0x45 ∷ []) 2 ∷ answering [] (encodeNotice (record { start = 3; members = record { bits = 0b10011 } })) 2
+    answering [] [] 2 ∷ answering [] (0x4e ∷ 0x45 ∷ []) 2
+    ∷ answering [] (encodeNotice (record { start = 3; members = record { bits = 0b10011 } })) 2
     ∷ answering [] [] (limit + 1)
     ∷ answering [] (take 77 shown) 2 ∷ answering [] (shown ++ (0 ∷ [])) 2 ∷ answering [] (0x56 ∷ 0x57 ∷ []) (limit + 1)
-    ∷ answering [] (viewed (limit + 1) 0b10011 3 7 0) 2 ∷ answering [] (viewed 8 0b10011 3 (limit + 1) 0) 2 ∷ answering [] shown (limit + 1)
+    ∷ answering [] (viewed (limit + 1) 0b10011 3 7 0) 2 ∷ answering [] (viewed 8 0b10011 3 (limit + 1) 0) 2
+    ∷ answering [] shown (limit + 1)
     ∷ answering [] (viewed 8 0b10011 3 7 1) (limit + 1)
     ∷ answering [] (viewed 8 0b10011 3 7 1) 2 ∷ answering (0 ∷ []) (viewed 8 0b10011 3 7 1) 2
     ∷ answering (take 10 sync0) shown 2 ∷ answering (sync0 ++ (0 ∷ [])) shown 2 ∷ answering (tab 12 (λ k. 0)) shown 2
     ∷ answering (0x53 ∷ 0x43 ∷ tab 9 (λ k. 0)) shown 2 ∷ answering (0x53 ∷ 0x43 ∷ 64 ∷ tab 8 (λ k. 0)) shown 2
-    ∷ answering (synced 64 3 2) shown 2 ∷ answering (synced 255 3 2) empty 2 ∷ answering (synced 64 (limit + 1) 2) shown 2
+    ∷ answering (synced 64 3 2) shown 2 ∷ answering (synced 255 3 2) empty 2
+    ∷ answering (synced 64 (limit + 1) 2) shown 2
     ∷ answering (synced 0 (limit + 1) 2) shown 2 ∷ answering (synced 63 3 (limit + 1)) shown 2
-    ∷ answering (sync0 ++ synced 1 3 (limit + 1) ++ synced 64 3 2) shown 2 ∷ answering (synced 64 3 2 ++ tab 11 (λ k. 0)) shown 2
+    ∷ answering (sync0 ++ synced 1 3 (limit + 1) ++ synced 64 3 2) shown 2
+    ∷ answering (synced 64 3 2 ++ tab 11 (λ k. 0)) shown 2
     ∷ []
 
 unfoldable pub statedRefusals : List Along

@@ -1,3 +1,6 @@
-pub mod Answers
-pub mod Days
+-- the question and its answer
 pub mod Sheet
+-- what an answer tells
+pub mod Answers
+-- worked sheets
+pub mod Days

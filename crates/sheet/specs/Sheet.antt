@@ -1,4 +1,5 @@
--- Who came along from the old view: what a sheet of sync records, a view and one's own previous view number answer, in the order of change request 4.
+-- Who came along from the old view: what a sheet of sync records, a view and one's own previous view number answer, in
+-- the order of change request 4.
 use mathlib.Core.Bool.{Bool, true, false, _&&_, _||_, not}
 use mathlib.Core.List.{List, [], _∷_, map}
 use mathlib.Core.Option.{Option, none, some}
@@ -12,16 +13,20 @@ use Rattle.seats.specs.Seats.{seatCount, containsOf}
 use Rattle.seats.specs.declared.SeatSet.{SeatSet}
 use Rattle.seats.specs.Offices.{packed}
 use Rattle.records.specs.Numbers.{limit}
-use Rattle.records.specs.Layout.{viewMark, viewLength, syncMark, syncLength, valueOf, markOf, checkOwn, decodeView, decodeSync}
+use Rattle.records.specs.Layout.{viewMark, viewLength, syncMark, syncLength, valueOf, markOf, checkOwn, decodeView}
+use Rattle.records.specs.Layout.{decodeSync}
 use Rattle.records.specs.declared.View.{View}
 use Rattle.records.specs.declared.Sync.{Sync}
-use Rattle.desk.specs.SeatChecks.{aView, recordAbove, strayStart, startFor}
+use Rattle.desk.specs.Views.{viewAbove, viewStray, startFor}
 use Rattle.sheet.specs.declared.Along.{Along}
 use Rattle.sheet.specs.declared.Along.the-variants as answers
 
 -- a sheet is at most 512 records end to end: 5,632 bytes
+abbrev pub sheetRecords : ℕ
+sheetRecords = 512
+
 abbrev pub sheetLimit : ℕ
-sheetLimit = 512 * syncLength
+sheetLimit = sheetRecords * syncLength
 
 -- its first n records, and all of them
 unfoldable pub recordsIn : ℕ → List ℕ → List (List ℕ)
@@ -68,7 +73,7 @@ answerFrom v previous rs =
 
 -- 8: a number in the view, or one's own, is above L
 unfoldable pub askedAbove : View → ℕ → Bool
-askedAbove v previous = recordAbove (aView v) || ltb limit previous
+askedAbove v previous = viewAbove v || ltb limit previous
 
 -- 17: the sheet is longer than 5,632 bytes or no multiple of 11
 unfoldable pub noSheet : ℕ → Bool
@@ -77,14 +82,23 @@ noSheet n = ltb sheetLimit n || not (eqb (n % syncLength) 0)
 -- a view that was read, one's own number, and a sheet of n bytes
 unfoldable pub askChecks : View → ℕ → ℕ → List Check
 askChecks v previous n =
-    record { number = 8; applies = askedAbove v previous } ∷ record { number = 10; applies = strayStart (aView v) } ∷ record { number = 17; applies = noSheet n } ∷ []
+    record { number = 8; applies = askedAbove v previous }
+    ∷ record { number = 10; applies = viewStray v } ∷ record { number = 17; applies = noSheet n } ∷ []
 
 -- a bad record: 4 for a wrong mark, 6 for a seat above 63, 8 for a number above L
+abbrev pub otherMark : List ℕ → Bool
+otherMark b = not (eqb (markOf b) (valueOf syncMark))
+
+abbrev pub noSeat : Sync → Bool
+noSeat r = leb seatCount (r .seat)
+
+abbrev pub syncAbove : Sync → Bool
+syncAbove r = ltb limit (r .start) || ltb limit (r .previous)
+
 unfoldable pub syncChecks : List ℕ → List Check
 syncChecks b =
-    record { number = 4; applies = not (eqb (markOf b) (valueOf syncMark)) }
-    ∷ record { number = 6; applies = leb seatCount (decodeSync b .seat) }
-    ∷ record { number = 8; applies = ltb limit (decodeSync b .start) || ltb limit (decodeSync b .previous) } ∷ []
+    record { number = 4; applies = otherMark b } ∷ record { number = 6; applies = noSeat (decodeSync b) }
+    ∷ record { number = 8; applies = syncAbove (decodeSync b) } ∷ []
 
 -- the number of the first bad record; 0 where none is bad
 unfoldable pub firstBad : List (List ℕ) → ℕ
@@ -94,7 +108,8 @@ firstBad (b ∷ bs) = let n = firstOf (syncChecks b) in ifb (eqb n 0) (firstBad 
 -- the view is read first: 4 and 5 by its own mark and length, then 8 and 10; then 17; then the first bad record
 unfoldable pub alongChecks : List ℕ → List ℕ → ℕ → List Check
 alongChecks sheet view previous =
-    numbered (checkOwn viewMark viewLength view) ∷ numbered (firstOf (askChecks (decodeView view) previous (length sheet)))
+    numbered (checkOwn viewMark viewLength view)
+    ∷ numbered (firstOf (askChecks (decodeView view) previous (length sheet)))
     ∷ numbered (firstBad (recordsOn sheet)) ∷ []
 
 -- any sheet, any view, any number

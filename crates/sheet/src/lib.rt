@@ -1,4 +1,4 @@
-// Who came along from the old view: the answers that a sheet of sync records gives, what they are, and their laws. No functions.
+// Who came along from the old view: the answers that a sheet of sync records gives. No functions.
 use seats::SeatSet;
 
 // Refused under a number of the documents; the record of this member seat is missing; these members named the number.

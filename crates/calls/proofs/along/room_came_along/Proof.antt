@@ -28,20 +28,34 @@ call-number-requires-2 c κs = search needs
 enum-known-set : tie.Need-enum-known-set
 enum-known-set c = search needs
 
+put-set-requires : tie.Need-put-set-requires
+put-set-requires c κs = search needs
+
 call-number-requires-3 : tie.Need-call-number-requires-3
 call-number-requires-3 c κs = search needs
 
 returns : tie.Need-returns
 unfolding inWord alongRefusal alongValue
-returns c = rw (← c .before .before .before .before .came-along .ensures, c .before .before .n .given .1, c .call-number .ensures)
+returns c =
+    let w = c .before .before in
+    rw (← w .before .before .came-along .ensures, w .n .given .1, c .call-number .ensures)
 
 returns-2 : tie.Need-returns-2
 unfolding inWord alongRefusal alongValue
-returns-2 c = rw (← c .before .before .before .before .came-along .ensures, c .before .before .seat .given .1, c .call-number2 .ensures)
+returns-2 c =
+    let w = c .before .before in
+    rw (← w .before .before .came-along .ensures, w .seat .given .1, c .call-number2 .ensures)
 
 returns-3 : tie.Need-returns-3
 unfolding inWord alongRefusal alongValue
-returns-3 c = rw (← c .before .before .before .before .came-along .ensures, c .before .before .set .given .1, c .call-number3 .ensures)
+returns-3 c =
+    let w = c .before .before .before .before in
+    rw (
+      ← w .before .before .came-along .ensures,
+      w .set .given .1,
+      c .call-number3 .ensures,
+      c .before .put-set .ensures,
+    )
 
 pub room-came-along-spec : {M : Type 1} → statement M
 room-came-along-spec =
@@ -55,6 +69,7 @@ room-came-along-spec =
     add-call-number
     call-number-requires-2
     enum-known-set
+    put-set-requires
     call-number-requires-3
     returns
     returns-2

@@ -9,8 +9,8 @@ use Rattle.calls.proofs.office.room_step.Tie as tie
 step-requires : tie.Need-step-requires
 step-requires c κs = search needs
 
-answer-requires : tie.Need-answer-requires
-answer-requires c κs =
+step-number-requires : tie.Need-step-number-requires
+step-number-requires c κs =
     let a = c .before .before .before .before .before .before .before .before .before .before .args in
     let w = c .before .before .before .before .step .ensures .same-written in
     omega (arith, row-size (a .state .now) (a .«record» .now) (length (a .out .now)))
@@ -25,8 +25,9 @@ returns : tie.Need-returns
 returns c =
     let a = c .before .before .before .before .before .before .before .before .before .before .before .args in
     let s = c .before .before .before .before .before .step in
-    call-is (a .state .now) (a .«record» .now) (a .out .now) (s .result .refusal) (s .result .written) _ _ (c .answer .result) (s .ensures)
-    (c .answer .ensures)
+    call-is (a .state .now) (a .«record» .now) (a .out .now) (s .result .refusal) (s .result .written) _ _
+    (c .step-number .result) (s .ensures)
+    (c .step-number .ensures)
 
 pub room-step-spec : {M : Type 1} → statement M
-room-step-spec = tie.close (tie.spec step-requires answer-requires same-length same-length-2 returns)
+room-step-spec = tie.close (tie.spec step-requires step-number-requires same-length same-length-2 returns)

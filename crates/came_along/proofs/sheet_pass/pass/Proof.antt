@@ -11,7 +11,8 @@ use Rattle.came_along.proofs.sheet_pass.pass.Tie as tie
 
 abbrev Inv-loop : tie.InvT-loop
 Inv-loop sheet previous starts count found₀ k₀ found k =
-    (k ≤ count) × (count ≡ length sheet / syncLength) × ((n : ℕ) → Going (record { number = n; members = found₀ .missing; starts = starts }) previous sheet k found)
+    (k ≤ count) × (count ≡ length sheet / syncLength) ×
+    ((n : ℕ) → Going (record { number = n; members = found₀ .missing; starts = starts }) previous sheet k found)
 
 abbrev μ-loop : tie.MeasureT-loop
 μ-loop sheet previous starts count found₀ k₀ found k = count - k
@@ -19,14 +20,16 @@ abbrev μ-loop : tie.MeasureT-loop
 -- the record at hand, as it is read
 read : (c : tie.After-read-record Inv-loop μ-loop)
     → let a = c .before .before .before .before .before .before .before .args in
-    c .read-record .result ≡ recordRead (take syncLength (drop (c .before .before .before .loop .k * syncLength) (a .sheet .now)))
+    c .read-record .result
+    ≡ recordRead (take syncLength (drop (c .before .before .before .loop .k * syncLength) (a .sheet .now)))
 read c =
     let k = c .before .before .before .loop .k in
     let e : k * syncLength + syncLength - k * syncLength ≡ syncLength = omega arith in
     rw e at (c .read-record .ensures)
 
 loop-holds : tie.Need-loop-holds Inv-loop μ-loop
-loop-holds c = (omega arith, refl, λ n. going-none _ _ _ (c .before .before .before .good .1 .0 .1 .1 .1 .0 .1 .1 .0 .1))
+loop-holds c =
+    (omega arith, refl, λ n. going-none _ _ _ (c .before .before .before .good .1 .0 .1 .1 .1 .0 .1 .1 .0 .1))
 
 mul-at : tie.Need-mul-at Inv-loop μ-loop
 mul-at c = omega arith
@@ -51,14 +54,16 @@ returns c =
     let r = c .before .before in
     let l = r .before .before .before in
     let a = l .before .before .before .before .args in
-    pass-bad (a .v) (a .previous) (a .sheet .now) (l .loop .k) (omega arith) (r .read-record .result) (read r) _ (l .loop .inv .2 (a .v .number)) (c .if1 .taken)
+    pass-bad (a .v) (a .previous) (a .sheet .now) (l .loop .k) (omega arith) (r .read-record .result) (read r) _
+    (l .loop .inv .2 (a .v .number)) (c .if1 .taken)
 
-turn-requires : tie.Need-turn-requires Inv-loop μ-loop
-turn-requires c κs =
+count-record-requires : tie.Need-count-record-requires Inv-loop μ-loop
+count-record-requires c κs =
     let r = c .before .before .before in
     let l = r .before .before .before in
     let a = l .before .before .before .before .args in
-    next-seat (a .v) (a .previous) (a .sheet .now) (l .loop .k) (omega arith) (r .read-record .result) (read r) (c .before .if1 .left)
+    next-seat (a .v) (a .previous) (a .sheet .now) (l .loop .k) (omega arith) (r .read-record .result) (read r)
+    (c .before .if1 .left)
 
 add-k : tie.Need-add-k Inv-loop μ-loop
 add-k c = omega arith
@@ -73,8 +78,9 @@ loop-again c =
     let a = l .before .before .before .before .args in (
       omega arith,
       refl,
-      λ n. going-next (record { number = n; members = a .v .members; starts = a .v .starts }) (a .previous) (a .sheet .now) (l .loop .k) (omega arith) (r .read-record .result) (read r) _
-          (l .loop .inv .2 n) (c .before .before .if1 .left) _ (c .turn .ensures),
+      λ n. going-next (record { number = n; members = a .v .members; starts = a .v .starts }) (a .previous)
+          (a .sheet .now) (l .loop .k) (omega arith) (r .read-record .result) (read r) _
+          (l .loop .inv .2 n) (c .before .before .if1 .left) _ (c .count-record .ensures),
     )
 
 returns-2 : tie.Need-returns-2 Inv-loop μ-loop
@@ -97,7 +103,7 @@ pass-spec =
     part-read-record-end
     read-record-requires
     returns
-    turn-requires
+    count-record-requires
     add-k
     loop-less
     loop-again

@@ -1,16 +1,18 @@
 use mathlib.Core.Path.{sym, ap, _∙_}
 use Rattle.record_bytes.specs.declared.notices.NoticeRead.{NoticeRead}
 use Rattle.desk.specs.SeatChecks.{aNotice}
-use Rattle.desk.specs.Hearing.{afterRecord}
-use Rattle.desk.proofs.Laws.{SeatRead, hear-6, hear-unread, hear-refused, hear-accepted}
+use Rattle.desk.proofs.HearingLaws.{SeatRead, hear-6, hear-unread, hear-refused, hear-accepted}
 use Rattle.desk.proofs.Readers.{notice-read}
 use borrow.Author.Needs.{needs}
 use Rattle.desk.proofs.hearing.hear.Statement.{statement}
 use Rattle.desk.proofs.hearing.hear.Tie as tie
 
 -- what the reader of notices told, where the mark is a notice's
-read : (c : tie.Else2) → let a = c .before .before .before .before .before .before .args in let r = c .before .before .read-notice .result in SeatRead (a .bytes .now) (r .refusal) (aNotice (r .notice))
-read c = notice-read _ (c .before .before .read-notice .result) (c .before .before .read-notice .ensures) (c .if2 .left)
+read : (c : tie.Else2) → let b = c .before .before .before .before .before .before .args .bytes .now in
+    let r = c .before .before .read-notice .result in
+    SeatRead b (r .refusal) (aNotice (r .notice))
+read c = notice-read _ (c .before .before .read-notice .result) (c .before .before .read-notice .ensures)
+    (c .if2 .left)
 
 cast-if1 : tie.Need-cast-if1
 cast-if1 c = search needs
@@ -25,7 +27,9 @@ read-notice-requires : tie.Need-read-notice-requires
 read-notice-requires c κs = search needs
 
 hear-view-requires : tie.Need-hear-view-requires
-hear-view-requires c κs = (c .before .before .before .if1 .left, sym (ap (λ (r : NoticeRead). r .refusal) (c .before .before .read-notice .ensures)) ∙ c .if2 .taken)
+hear-view-requires c κs =
+    let t = c .before .before in
+    (t .before .if1 .left, sym (ap (λ (r : NoticeRead). r .refusal) (t .read-notice .ensures)) ∙ c .if2 .taken)
 
 returns-2 : tie.Need-returns-2
 returns-2 c = search needs
@@ -34,7 +38,9 @@ refuse-requires-2 : tie.Need-refuse-requires-2
 refuse-requires-2 c κs = search needs
 
 returns-3 : tie.Need-returns-3
-returns-3 c = c .refuse2 .ensures ∙ sym (hear-unread _ _ (c .before .before .before .before .before .before .if1 .left) (read (c .before .before .before)) (c .before .if3 .taken))
+returns-3 c =
+    let r = c .before .before .before in
+    c .refuse2 .ensures ∙ sym (hear-unread _ _ (r .before .before .before .if1 .left) (read r) (c .before .if3 .taken))
 
 notice-refusal-requires : tie.Need-notice-refusal-requires
 notice-refusal-requires c κs = search needs
@@ -43,11 +49,23 @@ refuse-requires-3 : tie.Need-refuse-requires-3
 refuse-requires-3 c κs = search needs
 
 returns-4 : tie.Need-returns-4
-returns-4 c = c .refuse3 .ensures ∙ sym (hear-refused _ _ (c .before .before .before .before .before .before .before .before .if1 .left) (read (c .before .before .before .before .before)) (c .before .before .before .if3 .left) _ (c .before .before .notice-refusal .ensures) (c .before .if4 .taken))
+returns-4 c =
+    let f = c .before .before in
+    let r = f .before .before .before in
+    c .refuse3 .ensures
+    ∙ sym (hear-refused _ _ (r .before .before .before .if1 .left) (read r) (f .before .if3 .left) _
+    (f .notice-refusal .ensures) (c .before .if4 .taken))
+
+after-notice-requires : tie.Need-after-notice-requires
+after-notice-requires c κs = search needs
 
 returns-5 : tie.Need-returns-5
-unfolding afterRecord
-returns-5 c = sym (hear-accepted _ _ (c .before .before .before .before .before .before .before .if1 .left) (read (c .before .before .before .before)) (c .before .before .if3 .left) (sym (c .before .notice-refusal .ensures) ∙ c .if4 .left))
+returns-5 c =
+    let f = c .before .before in
+    let r = f .before .before .before in
+    rw (c .after-notice .ensures)
+    (sym (hear-accepted _ _ (r .before .before .before .if1 .left) (read r) (f .before .if3 .left)
+    (sym (f .notice-refusal .ensures) ∙ c .before .if4 .left)))
 
 pub hear-spec : {M : Type 1} → statement M
 hear-spec =
@@ -64,4 +82,5 @@ hear-spec =
     notice-refusal-requires
     refuse-requires-3
     returns-4
+    after-notice-requires
     returns-5)

@@ -1,4 +1,4 @@
--- What a seat answers, at each of the exits: 6; 4 and 5; a reason of the record; and an accepted record.
+-- making and hearing: what a seat answers at each exit: 6; 4 and 5; a reason of the record; an accepted record.
 use mathlib.Core.Path.{_≡_, refl}
 use mathlib.Core.List.{List}
 use Prim.Native.Nat.{ℕ, _≤_, _<_}
@@ -7,12 +7,14 @@ use native.Mathlib.Decide.{ℕ-discrete}
 use borrow.Author.Tests.{le-leb, lt-leb, ne-eqb}
 use Rattle.laws.specs.Checks.{firstOf}
 use Rattle.seats.specs.Seats.{seatCount}
-use Rattle.records.specs.Layout.{noticeMark, noticeLength, viewMark, viewLength, checkFor, checkOwn, decodeNotice, decodeView}
+use Rattle.records.specs.Layout.{noticeMark, noticeLength, viewMark, viewLength, checkFor, checkOwn, decodeNotice}
+use Rattle.records.specs.Layout.{decodeView}
 use Rattle.records.proofs.CheckLaws.{own-mark}
 use Rattle.records.proofs.OwnChecks.{by-first, by-second}
 use Rattle.desk.specs.declared.checks.Desk.{Desk}
 use Rattle.desk.specs.SeatChecks.{SeatRecord, aNotice, aView, seatChecks}
-use Rattle.desk.specs.Hearing.{freshDesk, madeDesk, seatRecordOf, checkSeatRecord, hearChecks, afterRecord, hearOf}
+use Rattle.desk.specs.Hearing.{freshDesk, madeDesk, seatRecordOf, checkSeatRecord, hearChecks, afterRecord}
+use Rattle.desk.specs.Hearing.{hearOf}
 
 module _ (seat : ℕ) where
   pub seat-6 : seatCount ≤ seat → madeDesk seat ≡ record { refusal = 6; desk = freshDesk 0 }
@@ -65,7 +67,8 @@ module _ (d : Desk) (b : List ℕ) where
     hear-unread h = rw (lt-leb seatCount (d .seat) seat, read .number, ne-eqb n 0 h, ne-eqb n 0 h)
 
     module _ (z : n ≡ 0) where
-      pub hear-refused : (m : ℕ) → m ≡ firstOf (seatChecks d t) → (m ≡ 0 → ⊥) → hearOf d b ≡ record { refusal = m; desk = d }
+      pub hear-refused : (m : ℕ) → m ≡ firstOf (seatChecks d t) → (m ≡ 0 → ⊥)
+          → hearOf d b ≡ record { refusal = m; desk = d }
       unfolding hearOf hearChecks
       hear-refused m e h = rw (lt-leb seatCount (d .seat) seat, read .number, z, read .is z, ← e, ne-eqb m 0 h)
 

@@ -1,7 +1,7 @@
 use Rattle.calls.proofs.InSeatWords.{all-written}
 use borrow.Author.Needs.{needs}
-use Rattle.calls.proofs.seat.put.Statement.{statement}
-use Rattle.calls.proofs.seat.put.Tie as tie
+use Rattle.calls.proofs.seat.put_desk.Statement.{statement}
+use Rattle.calls.proofs.seat.put_desk.Tie as tie
 
 slice-write-words : tie.Need-slice-write-words
 slice-write-words c = search needs
@@ -24,8 +24,8 @@ same-length c = search needs
 returns : tie.Need-returns
 returns c = all-written (c .before .args .words .now) (c .before .args .desk) (c .before .pre)
 
-pub put-spec : {M : Type 1} → statement M
-put-spec =
+pub put-desk-spec : {M : Type 1} → statement M
+put-desk-spec =
     tie.close
     (tie.spec
     slice-write-words

@@ -1,6 +1,6 @@
 use borrow.Author.Needs.{needs}
-use Rattle.desk.proofs.checks.view_above.Statement.{statement}
-use Rattle.desk.proofs.checks.view_above.Tie as tie
+use Rattle.desk.proofs.views.view_above.Statement.{statement}
+use Rattle.desk.proofs.views.view_above.Tie as tie
 
 above-limit-requires : tie.Need-above-limit-requires
 above-limit-requires c κs = search needs

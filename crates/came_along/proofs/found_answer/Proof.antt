@@ -2,8 +2,8 @@ use borrow.Author.Tests.{lt-ltb, le-ltb}
 use Rattle.seats.specs.Seats.{seatCount}
 use Rattle.came_along.specs.Found.{foundAnswer}
 use borrow.Author.Needs.{needs}
-use Rattle.came_along.proofs.answer.Statement.{statement}
-use Rattle.came_along.proofs.answer.Tie as tie
+use Rattle.came_along.proofs.found_answer.Statement.{statement}
+use Rattle.came_along.proofs.found_answer.Tie as tie
 
 lowest-requires : tie.Need-lowest-requires
 lowest-requires c κs = search needs
@@ -14,7 +14,11 @@ returns c = rw (← c .before .lowest .ensures, lt-ltb (c .before .lowest .resul
 
 returns-2 : tie.Need-returns-2
 unfolding foundAnswer
-returns-2 c = rw (← c .before .before .lowest .ensures, le-ltb (c .before .before .lowest .result) seatCount (c .before .if1 .left))
+returns-2 c =
+    rw (
+      ← c .before .before .lowest .ensures,
+      le-ltb (c .before .before .lowest .result) seatCount (c .before .if1 .left),
+    )
 
-pub answer-spec : {M : Type 1} → statement M
-answer-spec = tie.close (tie.spec lowest-requires returns returns-2)
+pub found-answer-spec : {M : Type 1} → statement M
+found-answer-spec = tie.close (tie.spec lowest-requires returns returns-2)

@@ -2,8 +2,8 @@ use borrow.Author.Needs.{needs}
 use mathlib.Core.Path.{sym, ap, _∙_}
 use Rattle.waiting.specs.Waiting.{refusalIn, valueIn}
 use Rattle.calls.specs.WaitingCalls.{numberOf}
-use Rattle.calls.proofs.waits.number.Statement.{statement}
-use Rattle.calls.proofs.waits.number.Tie as tie
+use Rattle.calls.proofs.waits.waiting_number.Statement.{statement}
+use Rattle.calls.proofs.waits.waiting_number.Tie as tie
 
 enum-told : tie.Need-enum-told
 enum-told c = search needs
@@ -48,8 +48,8 @@ returns-4 : tie.Need-returns-4
 unfolding refusalIn valueIn numberOf
 returns-4 c = c .call-number4 .ensures ∙ sym (ap numberOf (c .before .before .w .given .1))
 
-pub number-spec : {M : Type 1} → statement M
-number-spec =
+pub waiting-number-spec : {M : Type 1} → statement M
+waiting-number-spec =
     tie.close
     (tie.spec
     enum-told
