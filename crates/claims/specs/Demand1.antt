@@ -15,10 +15,10 @@ use Rattle.records.specs.declared.Proposal.{Proposal}
 use Rattle.rules.specs.State.{State}
 use Rattle.rules.specs.Rules.{fresh}
 use Rattle.rules.specs.Refusals.{wellFormed, fullRoom, madeOf, Event, eventOf, proposalChecks, refusalOf, ruleOf}
-use Rattle.rules.specs.Refusals.{refused, stepOf, allBytes, size}
+use Rattle.rules.specs.Refusals.{refused, stepOf, allBytes, size, accepted}
 use Rattle.rule_laws.proofs.Reasons.{Answer}
 use Rattle.rule_laws.proofs.Shapes.{Shaped}
-use Rattle.rule_laws.proofs.Steps.{accepted, Accepts, Passes, WellFormed}
+use Rattle.rule_laws.proofs.Steps.{Accepts, Passes, WellFormed}
 use Rattle.runs.specs.Office.{stateAfter, logOf, sentIn}
 use Rattle.row.specs.Row.{Row, rowLength, word, isRow, stateOf, wordsOf}
 use Rattle.row.proofs.Holds.{Holds}

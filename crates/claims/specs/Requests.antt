@@ -27,8 +27,7 @@ use Rattle.sheet.specs.Days.{computedAnswers, statedAnswers, computedRefusals, 
 use Rattle.sheet.specs.Days.{computedFull, statedFull}
 use Rattle.rules.specs.State.{State, zeros}
 use Rattle.rules.specs.Rules.{Written, view, nothingWritten, fresh, hasRecipient, repeats, viewOf, reportRule}
-use Rattle.rules.specs.Refusals.{wellFormed, fullRoom, aReport, eventOf, stepOf, bytesOf}
-use Rattle.rule_laws.proofs.Steps.{accepted}
+use Rattle.rules.specs.Refusals.{wellFormed, fullRoom, aReport, eventOf, stepOf, bytesOf, accepted}
 use Rattle.waiting.specs.declared.Waiting.the-variants as waits
 use Rattle.waiting.specs.Waiting.{waitingFor, waitingForOfAll}
 use Rattle.waiting.specs.Days.{answersComputed, answersStated}

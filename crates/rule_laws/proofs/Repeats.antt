@@ -10,8 +10,8 @@ use Rattle.records.specs.Fits.{FitsReport}
 use Rattle.records.specs.declared.Report.{Report}
 use Rattle.rules.specs.State.{State}
 use Rattle.rules.specs.Rules.{nothingWritten, netAfter, withNet, repeats, changeRule, reportRule}
-use Rattle.rules.specs.Refusals.{wellFormed, fullRoom, aReport, eventOf, actOf, stepOf}
-use Rattle.rule_laws.proofs.Steps.{accepted, AcceptsEvent, act-accepts, step-accepts}
+use Rattle.rules.specs.Refusals.{wellFormed, fullRoom, aReport, eventOf, actOf, stepOf, accepted}
+use Rattle.rule_laws.proofs.Steps.{AcceptsEvent, act-accepts, step-accepts}
 
 module _ (s : State) (r : Report) where
   abbrev net : ℕ

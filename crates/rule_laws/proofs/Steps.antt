@@ -23,7 +23,7 @@ use Rattle.rules.specs.Rules.{Outcome, fresh}
 use Rattle.rule_laws.proofs.Parts.{fresh-reads}
 use Rattle.rules.specs.Refusals.{fullRoom, slotWithin, wellFormed, unreadable, Event, eventOf, wrongSender}
 use Rattle.rules.specs.Refusals.{wrongKind, wrongNumber, withoutSeat, strayUsed, notAbove, usedAhead, proposalChecks, refusalOf, ruleOf, Result}
-use Rattle.rules.specs.Refusals.{refused, accepting, actOf, takeOf, stepOf}
+use Rattle.rules.specs.Refusals.{refused, accepted, accepting, actOf, takeOf, stepOf}
 
 -- what a stored proposal that passes check 2 satisfies
 pub record SlotWithin (v : Slot) : Type 0 where
@@ -160,10 +160,6 @@ facts-check s p h =
     kinds : (p .kind ≡ fast) ⊎ (p .kind ≡ slow) → wrongKind p ≡ false
     kinds (inl e) = rw e
     kinds (inr e) = rw e
-
--- what comes back when an event is accepted
-abbrev pub accepted : Outcome → Result
-accepted o = record { refusal = 0; written = o .written; state = o .state }
 
 -- the step refuses: it leaves the state and writes nothing
 pub record Refused (s : State) (r : Result) : Type 0 where

@@ -106,9 +106,12 @@ pub record Result : Type 0 where
 abbrev pub refused : ℕ → State → Result
 refused n s = record { refusal = n; written = []; state = s }
 
+abbrev pub accepted : Outcome → Result
+accepted o = record { refusal = 0; written = o .written; state = o .state }
+
 -- 13: the event would make a number above L, so that the state it leaves would not pass check 2
 unfoldable pub accepting : State → Outcome → Result
-accepting s o = ifb (wellFormed (o .state)) (record { refusal = 0; written = o .written; state = o .state }) (refused 13 s)
+accepting s o = ifb (wellFormed (o .state)) (accepted o) (refused 13 s)
 
 -- acting on an event
 unfoldable pub actOf : State → Event → Result

@@ -10,7 +10,8 @@ use Rattle.records.specs.declared.Proposal.{Proposal}
 use Rattle.rules.specs.State.{State}
 use Rattle.rules.specs.Rules.{Outcome}
 use Rattle.rules.specs.Refusals.{fullRoom, wellFormed, Event, aProposal, refusalOf, ruleOf, accepting, actOf, Result, takeOf}
-use Rattle.rule_laws.proofs.Steps.{accepted, Refused, Takes, Passes, check-facts, take-accepts, take-cases}
+use Rattle.rules.specs.Refusals.{accepted}
+use Rattle.rule_laws.proofs.Steps.{Refused, Takes, Passes, check-facts, take-accepts, take-cases}
 use Rattle.runs.specs.World.{World, proposalAnswer}
 use Rattle.runs.proofs.Arrays.{Barred}
 use Rattle.runs.proofs.Proposals.{other-members}

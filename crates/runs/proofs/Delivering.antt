@@ -16,8 +16,8 @@ use Rattle.records.specs.declared.Proposal.{Proposal}
 use Rattle.rules.specs.State.{State, usedAt}
 use Rattle.rules.specs.Rules.{nothingWritten, received, receives, proposalRule}
 use Rattle.records.specs.Numbers.{limit}
-use Rattle.rules.specs.Refusals.{wellFormed, Event, aProposal, refusalOf, ruleOf, Result, takeOf}
-use Rattle.rule_laws.proofs.Steps.{accepted, Refused, Takes, Passes, well-facts, check-facts, facts-check, take-accepts, take-cases}
+use Rattle.rules.specs.Refusals.{wellFormed, Event, aProposal, refusalOf, ruleOf, Result, takeOf, accepted}
+use Rattle.rule_laws.proofs.Steps.{Refused, Takes, Passes, well-facts, check-facts, facts-check, take-accepts, take-cases}
 use Rattle.rule_laws.proofs.Parts.{received-reads}
 use Rattle.rule_laws.proofs.Walk.{staged-proposal}
 use Rattle.runs.specs.World.{Item, World, delivery, without, answered, withLink, proposalAnswer, to-proposal, Among}

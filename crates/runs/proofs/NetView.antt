@@ -19,8 +19,8 @@ use Rattle.records.specs.declared.Report.{Report}
 use Rattle.records.specs.declared.Proposal.{Proposal}
 use Rattle.rules.specs.State.{State}
 use Rattle.rules.specs.Rules.{Outcome, netAfter, fresh, reportRule}
-use Rattle.rules.specs.Refusals.{Event, aReport, aProposal, ruleOf, Result, takeOf}
-use Rattle.rule_laws.proofs.Steps.{accepted, Refused, Takes, take-accepts, take-cases}
+use Rattle.rules.specs.Refusals.{Event, aReport, aProposal, ruleOf, Result, takeOf, accepted}
+use Rattle.rule_laws.proofs.Steps.{Refused, Takes, take-accepts, take-cases}
 use Rattle.rule_laws.proofs.Repeats.{net-repeat, repeat-rule}
 use Rattle.rule_laws.proofs.Parts.{fresh-reads}
 use Rattle.runs.specs.World.{Item, World, atFirst, WorldEvent, report, delivery, loss, answered, withLink, idle, delivered, reportAnswer, proposalAnswer, next, run, at, Nth, netOne, netBy, Among}

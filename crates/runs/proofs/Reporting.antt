@@ -15,8 +15,8 @@ use Rattle.records.specs.declared.Report.{Report}
 use Rattle.rules.specs.State.{State, usedAt}
 use Rattle.rules.specs.Rules.{nothingWritten, netAfter, withNet, repeats, seated, receives, reportRule}
 use Rattle.records.specs.Numbers.{limit}
-use Rattle.rules.specs.Refusals.{wellFormed, Event, aReport, ruleOf, Result, takeOf}
-use Rattle.rule_laws.proofs.Steps.{accepted, Refused, Takes, well-facts, take-accepts}
+use Rattle.rules.specs.Refusals.{wellFormed, Event, aReport, ruleOf, Result, takeOf, accepted}
+use Rattle.rule_laws.proofs.Steps.{Refused, Takes, well-facts, take-accepts}
 use Rattle.rule_laws.proofs.Repeats.{repeat-net, change-net, repeat-rule}
 use Rattle.rule_laws.proofs.Parts.{withNet-reads}
 use Rattle.rule_laws.proofs.Walk.{staged-report}

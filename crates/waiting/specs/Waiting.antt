@@ -48,9 +48,16 @@ refusalIn answers.Nobody = 0
 refusalIn answers.Met = 0
 refusalIn (answers.For o) = 0
 
--- and its value for C: an office, 16 for met, 17 for nobody and with 2
+-- the values for C that are no office
+abbrev pub metValue : ℕ
+metValue = 16
+
+abbrev pub nobodyValue : ℕ
+nobodyValue = 17
+
+-- and the value of an answer for C: an office, or that it is met, or nobody, also with 2
 unfoldable pub valueIn : Waiting → ℕ
-valueIn answers.Malformed = 17
-valueIn answers.Nobody = 17
-valueIn answers.Met = 16
+valueIn answers.Malformed = nobodyValue
+valueIn answers.Nobody = nobodyValue
+valueIn answers.Met = metValue
 valueIn (answers.For o) = o
