@@ -1,5 +1,5 @@
-// What an accepted proposal does, inner to the layer of the step: the rule on the row of words of one office in one room, changed in place,
-// and the records written behind one another.
+// What an accepted proposal does: the rule on the row of words of one office in one room, changed in place, and the
+// records written behind one another.
 use crate::round_tests::tests;
 use event_parts::receive;
 use records::Proposal;
@@ -16,7 +16,8 @@ ghost use Rattle.event_parts.specs.Did.{Did};
 pub fn act_on_proposal(s: &mut [u32], p: Proposal, out: &mut [u8]) -> usize
     requires { ⌜ Row (now s) × (wellFormed (stateOf (now s)) ≡ true) × (fullRoom ≤ length (now out)) ⌝ }
     requires { ⌜ (p .sender < 16) × (p .start ≤ limit) × (p .number ≤ limit) ⌝ }
-    ensures { λ n. ⌜ Did (λ u. proposalRule u p) (now (s .entry)) (now (out .entry)) 0 (now (s .exit)) (now (out .exit)) n ⌝ }
+    ensures { λ n. ⌜ Did (λ u. proposalRule u p) (now (s .entry)) (now (out .entry)) 0 (now (s .exit))
+        (now (out .exit)) n ⌝ }
 {
     let net = row::net(s);
     let members = p.members;

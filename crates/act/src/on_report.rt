@@ -1,5 +1,5 @@
-// What an accepted report does, inner to the layer of the step: the rule on the row of words of one office in one room, changed in place,
-// and the records written behind one another.
+// What an accepted report does: the rule on the row of words of one office in one room, changed in place, and the
+// records written behind one another.
 use crate::round_tests::tests;
 use event_parts::opens;
 use propose::fast::proposes_fast;
@@ -20,7 +20,8 @@ ghost use Rattle.event_parts.specs.Parts.{fastRound};
 
 // A report at an office with a seat in the net view.
 fn fast_round(s: &mut [u32], out: &mut [u8]) -> usize
-    requires { ⌜ Row (now s) × Bounded limit (stateOf (now s)) × Fits fastRound (now s) (now out) 0 × (seated (stateOf (now s)) ≡ true) ⌝ }
+    requires { ⌜ Row (now s) × Bounded limit (stateOf (now s)) × Fits fastRound (now s) (now out) 0
+        × (seated (stateOf (now s)) ≡ true) ⌝ }
     ensures { λ n. ⌜ Did fastRound (now (s .entry)) (now (out .entry)) 0 (now (s .exit)) (now (out .exit)) n ⌝ }
 {
     let noticed = opens(s, out, 0);
@@ -48,7 +49,8 @@ pub fn is_repeat(s: &[u32], r: Report) -> bool
 // A report that is no repeat.
 pub fn act_on_change(s: &mut [u32], r: Report, out: &mut [u8]) -> usize
     requires { ⌜ Row (now s) × (wellFormed (stateOf (now s)) ≡ true) × (fullRoom ≤ length (now out)) ⌝ }
-    ensures { λ n. ⌜ Did (λ u. changeRule (withNet u (netAfter (u .net .bits) r))) (now (s .entry)) (now (out .entry)) 0 (now (s .exit))
+    ensures { λ n. ⌜ Did (λ u. changeRule (withNet u (netAfter (u .net .bits) r))) (now (s .entry))
+        (now (out .entry)) 0 (now (s .exit))
         (now (out .exit)) n ⌝ }
 {
     let old = row::net(s);
@@ -64,7 +66,8 @@ pub fn act_on_change(s: &mut [u32], r: Report, out: &mut [u8]) -> usize
 // A repeat does nothing.
 pub fn act_on_report(s: &mut [u32], r: Report, out: &mut [u8]) -> usize
     requires { ⌜ Row (now s) × (wellFormed (stateOf (now s)) ≡ true) × (fullRoom ≤ length (now out)) ⌝ }
-    ensures { λ n. ⌜ Did (λ u. reportRule u r) (now (s .entry)) (now (out .entry)) 0 (now (s .exit)) (now (out .exit)) n ⌝ }
+    ensures { λ n. ⌜ Did (λ u. reportRule u r) (now (s .entry)) (now (out .entry)) 0 (now (s .exit))
+        (now (out .exit)) n ⌝ }
 {
     if is_repeat(s, r) {
         return 0;

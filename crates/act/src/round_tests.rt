@@ -1,4 +1,4 @@
-// The tests of a round, on the row of an office: the slow test, then the agreement test; inner to the layer of the step.
+// The tests of a round, on the row of an office: the slow test, then the agreement test.
 use agree::agreement::agreement_test;
 use propose::slow_test::slow_test;
 ghost use Rattle.rules.specs.Rules.{tests};

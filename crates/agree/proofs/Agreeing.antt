@@ -1,4 +1,4 @@
--- The agreement test by its cases.
+-- For agreement: the agreement test by its cases.
 use mathlib.Core.Path.{_≡_}
 use mathlib.Core.Bool.{true, false}
 use Rattle.records.specs.declared.View.{View}

@@ -1,4 +1,4 @@
--- The end of a round office by office.
+-- For round_end: the end of a round office by office.
 use mathlib.Core.Path.{_≡_, refl, sym, _∙_}
 use mathlib.Core.Bool.{Bool, true, false, _&&_}
 use mathlib.Core.List.{List}
@@ -73,17 +73,24 @@ module _ (s : State) (o : ℕ) (lt : o < 16) where
       old = stored-emptied o s o lt ∙ rw (among-not s o)
 
       slots : tab 16 (upd (storedAt (emptied o s)) o nothing) ≡ tab 16 (emptySlot (o + 1) s)
-      slots = tab-ext 16 _ _ (λ k l. upd-cases (λ (i : ℕ) (v : Slot). i < 16 → v ≡ emptySlot (o + 1) s i) (storedAt (emptied o s)) o nothing k
+      slots = tab-ext 16 _ _
+          (λ k l. upd-cases (λ (i : ℕ) (v : Slot). i < 16 → v ≡ emptySlot (o + 1) s i)
+          (storedAt (emptied o s)) o nothing k
           (λ h. rw (among-same s o, e)) (λ n h. stored-emptied o s k h ∙ rw (among-other s o k n)) l)
 
-      numbers : tab 16 (upd (usedAt (emptied o s)) o (numberIn (storedAt (emptied o s) o))) ≡ tab 16 (emptyUsed (o + 1) s)
-      numbers = tab-ext 16 _ _ (λ k l. upd-cases (λ (i v : ℕ). i < 16 → v ≡ emptyUsed (o + 1) s i) (usedAt (emptied o s)) o _ k
+      numbers : tab 16 (upd (usedAt (emptied o s)) o (numberIn (storedAt (emptied o s) o))) ≡ tab 16
+          (emptyUsed (o + 1) s)
+      numbers = tab-ext 16 _ _
+          (λ k l. upd-cases (λ (i v : ℕ). i < 16 → v ≡ emptyUsed (o + 1) s i) (usedAt (emptied o s)) o _ k
           (λ h. rw (among-same s o, e, old)) (λ n h. used-emptied o s k h ∙ rw (among-other s o k n)) l)
 
   -- it has none
   pub emptied-skip : serves (s .net .bits) o ≡ false → emptied o s ≡ emptied (o + 1) s
   unfolding emptied
-  emptied-skip e = rw (tab-ext 16 (emptySlot o s) (emptySlot (o + 1) s) (λ k l. rw (same k)), tab-ext 16 (emptyUsed o s) (emptyUsed (o + 1) s) (λ k l. rw (same k)))
+  emptied-skip e = rw (
+    tab-ext 16 (emptySlot o s) (emptySlot (o + 1) s) (λ k l. rw (same k)),
+    tab-ext 16 (emptyUsed o s) (emptyUsed (o + 1) s) (λ k l. rw (same k)),
+  )
     where
       same : (k : ℕ) → among o s k ≡ among (o + 1) s k
       same k = go (ℕ-discrete k o)
@@ -97,8 +104,10 @@ unfolding emptied concluded
 concluded-by s v e =
     rw (
       e,
-      tab-ext 16 (emptySlot 16 s) (λ o. ifb (serves (s .net .bits) o) nothing (storedAt s o)) (λ k l. rw (among-all s k l)),
-      tab-ext 16 (emptyUsed 16 s) (λ o. ifb (serves (s .net .bits) o) (numberIn (storedAt s o)) (usedAt s o)) (λ k l. rw (among-all s k l)),
+      tab-ext 16 (emptySlot 16 s) (λ o. ifb (serves (s .net .bits) o) nothing (storedAt s o))
+          (λ k l. rw (among-all s k l)),
+      tab-ext 16 (emptyUsed 16 s) (λ o. ifb (serves (s .net .bits) o) (numberIn (storedAt s o)) (usedAt s o))
+          (λ k l. rw (among-all s k l)),
     )
 
 -- a state of a row has sixteen of each

@@ -1,4 +1,5 @@
-pub mod Laying
-pub mod Emptying
+-- The laws, in the order of the modules that they serve: lacking, new_view, round_end, agreement.
 mod Looking
-pub mod Agreeing
+mod Laying
+mod Emptying
+mod Agreeing

@@ -1,4 +1,4 @@
--- Looking through a set of offices from the lowest on.
+-- For lacking: looking through a set of offices from the lowest on.
 use mathlib.Core.Path.{_≡_, refl, sym, ap, _∙_}
 use mathlib.Core.Bool.{Bool, true, false, _&&_, _||_, not, and-true, and-false}
 use Prim.Native.Nat.{ℕ, _-_, _*_, _%_, _^_, _≤_, _<_}
@@ -31,8 +31,10 @@ agrees-by s Fast e n o = rw e (sym (and-true _))
 agrees-by s Slow e n o = rw e
 
 -- the code's answer b at office o
-pub agrees-by-code : (s : State) → isNone (s .mode) ≡ false → (kind number : ℕ) (net : SeatSet) (o : ℕ) (b : Bool) → kind ≡ kindOf (s .mode)
-    → number ≡ s .number → net ≡ s .net → b ≡ not (agreesBy kind number (net .bits) (storedAt s o)) → agreesIn (s .mode) s o ≡ not b
+pub agrees-by-code : (s : State) → isNone (s .mode) ≡ false → (kind number : ℕ) (net : SeatSet) (o : ℕ) (b : Bool)
+    → kind ≡ kindOf (s .mode)
+    → number ≡ s .number → net ≡ s .net → b ≡ not (agreesBy kind number (net .bits) (storedAt s o))
+    → agreesIn (s .mode) s o ≡ not b
 agrees-by-code s n kind number net o b x y z e = agrees-by s (s .mode) refl n o ∙ back _ _ (rw (x, y, z) at e)
   where
     back : (a b : Bool) → b ≡ not a → a ≡ not b
@@ -54,7 +56,8 @@ module _ (kind number net : ℕ) (v : Slot) where
 
   pub there : v .present ≡ true
       → let p = v .proposal in
-      not (eqb (p .kind) kind) || not (eqb (p .members .bits) net) || (eqb kind slow && not (eqb (p .number) number)) ≡ not (agreesBy kind number net v)
+      not (eqb (p .kind) kind) || not (eqb (p .members .bits) net)
+      || (eqb kind slow && not (eqb (p .number) number)) ≡ not (agreesBy kind number net v)
   unfolding agreesBy
   there e = rw e (parts-not (eqb (v .proposal .kind) kind) _ (eqb kind slow) _)
 
@@ -65,7 +68,8 @@ dropped b o = bitAnd b (2 ^ 16 - 1 - 1 * 2 ^ o % 2 ^ 16)
 has-dropped : (b o k : ℕ) → o < 16 → k < 16 → has (dropped b o) k ≡ has b k && not (eqb k o)
 has-dropped b o k h l =
     let e : 1 * 2 ^ o % 2 ^ 16 ≡ 2 ^ o = rw one-mul (mod-eq-of-lt (pow-lt h)) in
-    rw e (has-and b (2 ^ 16 - 1 - 2 ^ o) k ∙ ap (λ (t : Bool). has b k && t) (has-not 16 (2 ^ o) k l (pow-lt h) ∙ ap not (has-one o k)))
+    rw e (has-and b (2 ^ 16 - 1 - 2 ^ o) k
+    ∙ ap (λ (t : Bool). has b k && t) (has-not 16 (2 ^ o) k l (pow-lt h) ∙ ap not (has-one o k)))
 
 module _ (b : ℕ) (lt : b < 2 ^ 16) (some : b ≡ 0 → ⊥) where
   -- the lowest of some offices is one, and without it there are fewer
@@ -80,7 +84,8 @@ module _ (b : ℕ) (lt : b < 2 ^ 16) (some : b ≡ 0 → ⊥) where
   fewer = go (ℕ-discrete (dropped b (lowestOf b)) b) (and-le-l b _)
     where
       gone : has (dropped b (lowestOf b)) (lowestOf b) ≡ false
-      gone = has-dropped b (lowestOf b) (lowestOf b) is-office is-office ∙ rw (eq-eqb (lowestOf b) (lowestOf b) refl) (and-false (has b (lowestOf b)))
+      gone = has-dropped b (lowestOf b) (lowestOf b) is-office is-office
+          ∙ rw (eq-eqb (lowestOf b) (lowestOf b) refl) (and-false (has b (lowestOf b)))
 
       go : Dec (dropped b (lowestOf b) ≡ b) → dropped b (lowestOf b) ≤ b → dropped b (lowestOf b) < b
       go (yes q) h = absurd (true-false _ (lowest-in b is-office) (rw q at gone))
@@ -113,5 +118,10 @@ module _ (s : State) where
       where
         go : (k : ℕ) → k < 16 → Dec (k ≡ lowestOf b)
             → has b k && not (agreesIn (s .mode) s k) ≡ has (dropped b (lowestOf b)) k && not (agreesIn (s .mode) s k)
-        go k l (yes q) = rw (q, e, and-false (has b (lowestOf b)), and-false (has (dropped b (lowestOf b)) (lowestOf b)))
+        go k l (yes q) = rw (
+          q,
+          e,
+          and-false (has b (lowestOf b)),
+          and-false (has (dropped b (lowestOf b)) (lowestOf b)),
+        )
         go k l (no q) = rw (has-dropped b (lowestOf b) k low l, ne-eqb k (lowestOf b) q, and-true (has b k))

@@ -1,4 +1,5 @@
--- What the agreement test asks of what is stored, by what the code has read of the state; and the lowest of some offices without it.
+-- What the agreement test asks of what is stored, by what the code has read of the state; and the lowest of some
+-- offices without it.
 use mathlib.Core.Bool.{Bool, _&&_, _||_, not}
 use Prim.Native.Nat.{ℕ}
 use lib.Dec.{eqb}

@@ -1,4 +1,4 @@
-// The agreement test, on the row of an office; inner to the layer of the step.
+// The agreement test, on the row of an office.
 use crate::lacking::lowest_lacking;
 use crate::new_view::view_of;
 use crate::round_end::conclude;

@@ -1,5 +1,5 @@
-// The lowest-numbered office of the net view without the proposal that the agreement test asks for, on the row of an office; inner to the
-// layer of the step.
+// The lowest-numbered office of the net view without the proposal that the agreement test asks for, on the row of an
+// office.
 use records::SLOW;
 use seats::SeatSet;
 use seats::offices::lowest;
@@ -27,8 +27,8 @@ fn disagrees(s: &[u32], o: usize, kind: u8, number: u32, net: SeatSet) -> bool
         | ((kind == SLOW) & (row::stored_number(s, o) != number))
 }
 
-// In mode fast or slow; 16 where every office of the net view has it. It looks at the offices of the net view from the lowest on, and
-// stops at the first without.
+// In mode fast or slow; 16 where every office of the net view has it. It looks at the offices of the net view from
+// the lowest on, and stops at the first without.
 pub fn lowest_lacking(s: &[u32]) -> u8
     requires { ⌜ Row (now s) × (isNone (stateOf (now s) .mode) ≡ false) ⌝ }
     ensures { λ r. ⌜ r ≡ lowestLacking (stateOf (now (s .entry))) ⌝ }

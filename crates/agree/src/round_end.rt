@@ -1,4 +1,4 @@
-// The end of a round, on the row of an office; inner to the layer of the step: the view is current, and the proposals that it counted are gone.
+// The end of a round, on the row of an office: the view is current, and the proposals that it counted are gone.
 use event_parts::counted;
 use records::View;
 use seats::SeatSet;

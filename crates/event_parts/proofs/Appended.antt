@@ -1,4 +1,4 @@
--- Records written one after another.
+-- For opening and every later part: records written one after another.
 use mathlib.Core.Path.{refl, sym, ap, _∙_}
 use mathlib.Core.List.{List, [], _∷_, _++_}
 use Prim.Native.Nat.{ℕ, _+_, _≤_}
@@ -19,7 +19,8 @@ unfolding allBytes
 appended-none o at = record { place = omega arith; output = refl }
 
 -- one record that has room
-pub appended-one : (o : List ℕ) (at : ℕ) (w : Written) (n : ℕ) (o′ : List ℕ) → at + size (w ∷ []) ≤ length o → Placed o at (bytesOf w) n o′
+pub appended-one : (o : List ℕ) (at : ℕ) (w : Written) (n : ℕ) (o′ : List ℕ) → at + size (w ∷ []) ≤ length o
+    → Placed o at (bytesOf w) n o′
     → Appended o at (w ∷ []) (at + n) o′
 unfolding placed placedCount
 appended-one o at w n o′ room h =
@@ -36,5 +37,6 @@ pub appended-then : {o p q : List ℕ} {at m n : ℕ} {a b : List Written} → A
 appended-then {o} {p} {q} {at} {m} {n} {a} {b} f g = record {
   place = let e = size-append a b in omega (arith, f .place, g .place);
   output = g .output
-      ∙ rw (f .output, f .place) (sym (sets-append o at (allBytes a) (allBytes b)) ∙ sym (ap (sets o at) (bytes-append a b)));
+      ∙ rw (f .output, f .place)
+      (sym (sets-append o at (allBytes a) (allBytes b)) ∙ sym (ap (sets o at) (bytes-append a b)));
 }

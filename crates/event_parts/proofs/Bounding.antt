@@ -1,4 +1,4 @@
--- What each part of an event makes of the bound on a state's numbers.
+-- For the crates above: what each part of an event makes of the bound on a state's numbers.
 use mathlib.Core.Path.{_≡_}
 use mathlib.Core.Bool.{Bool, true, false}
 use Prim.Native.Nat.{ℕ, _+_, _≤_, _<_}
@@ -8,12 +8,14 @@ use Rattle.laws.specs.Upd.{ifb}
 use Rattle.seats.specs.declared.SeatSet.{SeatSet}
 use Rattle.records.specs.declared.Proposal.{Proposal}
 use Rattle.rules.specs.State.{Mode, None, Fast, Slow, State}
-use Rattle.rules.specs.Rules.{opened, opens, nextNumber, proposed, proposesFast, received, slowNumber, beginsIn, nothingWritten, andThen, slowCalled, proposesSlow, slowTest, agreed, startOf}
+use Rattle.rules.specs.Rules.{opened, opens, nextNumber, proposed, proposesFast, received, slowNumber, beginsIn}
+use Rattle.rules.specs.Rules.{nothingWritten, andThen, slowCalled, proposesSlow, slowTest, agreed, startOf}
 use Rattle.records.specs.Numbers.{limit}
 use Rattle.rules.specs.Refusals.{wellFormed}
 use Rattle.rules.specs.Bounds.{Capped}
 use Rattle.rule_laws.proofs.Steps.{well-facts}
-use Rattle.rule_laws.proofs.Bounds.{capped-le, opened-capped, proposed-capped, received-capped, next-capped, slowNumber-capped, start-capped}
+use Rattle.rule_laws.proofs.Bounds.{capped-le, opened-capped, proposed-capped, received-capped, next-capped}
+use Rattle.rule_laws.proofs.Bounds.{slowNumber-capped, start-capped}
 use Rattle.rules.specs.State.{withNetSet}
 use Rattle.event_parts.specs.Bounds.{Bounded}
 
@@ -84,4 +86,5 @@ slowTest-bounded k s h = go (slowCalled s)
 
     go : (b : Bool) → Bounded (k + 2) (ifb b (andThen (beginsIn (s .mode) s) proposesSlow) (nothingWritten s) .state)
     go false = bounded-le k s h (k + 2) (omega arith)
-    go true = bounded-le (k + 1 + 1) (proposesSlow t .state) (proposesSlow-bounded (k + 1) t (begins-bounded k s (s .mode) h)) (k + 2) (omega arith)
+    go true = bounded-le (k + 1 + 1) (proposesSlow t .state)
+        (proposesSlow-bounded (k + 1) t (begins-bounded k s (s .mode) h)) (k + 2) (omega arith)

@@ -1,4 +1,4 @@
--- Parts of an event one after another, on a row and its output.
+-- For opening and every later part: parts of an event one after another, on a row and its output.
 use mathlib.Core.Path.{_≡_, refl, ap, _∙_}
 use mathlib.Core.List.{List, [], _∷_}
 use Prim.Native.Nat.{ℕ, _+_, _≤_}
@@ -16,11 +16,13 @@ use Rattle.event_parts.specs.Did.{Did, Fits}
 use Rattle.event_parts.proofs.Appended.{appended-none, appended-one, appended-then}
 
 -- a change that is another on this row
-pub changed-as : {f : State → State} {a b : List ℕ} (g : State → State) → Changed f a b → f (stateOf a) ≡ g (stateOf a) → Changed g a b
+pub changed-as : {f : State → State} {a b : List ℕ} (g : State → State) → Changed f a b
+    → f (stateOf a) ≡ g (stateOf a) → Changed g a b
 changed-as g x e = record { is = x .is ∙ e; row = x .row }
 
 -- a part that is another on this row
-pub did-as : {f : State → Outcome} {ws out ws′ out′ : List ℕ} {at n : ℕ} (g : State → Outcome) → Did f ws out at ws′ out′ n
+pub did-as : {f : State → Outcome} {ws out ws′ out′ : List ℕ} {at n : ℕ} (g : State → Outcome)
+    → Did f ws out at ws′ out′ n
     → f (stateOf ws) ≡ g (stateOf ws) → Did g ws out at ws′ out′ n
 did-as g d e = record {
   is = d .is ∙ ap (λ (o : Outcome). o .state) e;
@@ -48,7 +50,8 @@ did-after {h} {f} x d = record {
 }
 
 -- a change and no record, no change at all, a change and one record
-pub did-quiet : {h : State → State} {ws ws′ : List ℕ} (out : List ℕ) (at : ℕ) → Changed h ws ws′ → Did (λ s. nothingWritten (h s)) ws out at ws′ out at
+pub did-quiet : {h : State → State} {ws ws′ : List ℕ} (out : List ℕ) (at : ℕ) → Changed h ws ws′
+    → Did (λ s. nothingWritten (h s)) ws out at ws′ out at
 did-quiet out at x = record { is = x .is; row = x .row; written = appended-none out at }
 
 pub did-none : {ws : List ℕ} (out : List ℕ) (at : ℕ) → Row ws → Did nothingWritten ws out at ws out at
@@ -57,37 +60,47 @@ did-none out at r = record { is = refl; row = r; written = appended-none out at 
 abbrev pub one : (State → State) → Written → State → Outcome
 one h w s = record { state = h s; written = w ∷ [] }
 
-pub did-one : {h : State → State} {ws ws′ out out′ : List ℕ} {at n : ℕ} (w : Written) → Changed h ws ws′ → Fits (one h w) ws out at
+pub did-one : {h : State → State} {ws ws′ out out′ : List ℕ} {at n : ℕ} (w : Written) → Changed h ws ws′
+    → Fits (one h w) ws out at
     → Placed out at (bytesOf w) n out′ → Did (one h w) ws out at ws′ out′ (at + n)
-did-one {h} {ws} {ws′} {out} {out′} {at} {n} w x room p = record { is = x .is; row = x .row; written = appended-one out at w n out′ room p }
+did-one {h} {ws} {ws′} {out} {out′} {at} {n} w x room p =
+    record { is = x .is; row = x .row; written = appended-one out at w n out′ room p }
 
 -- a part that on this row is a change and one record
-pub did-wrote : (part : State → Outcome) {h : State → State} {ws ws′ out out′ : List ℕ} {at n : ℕ} (w : Written) → Changed h ws ws′
-    → one h w (stateOf ws) ≡ part (stateOf ws) → Fits part ws out at → Placed out at (bytesOf w) n out′ → Did part ws out at ws′ out′ (at + n)
+pub did-wrote : (part : State → Outcome) {h : State → State} {ws ws′ out out′ : List ℕ} {at n : ℕ} (w : Written)
+    → Changed h ws ws′
+    → one h w (stateOf ws) ≡ part (stateOf ws) → Fits part ws out at → Placed out at (bytesOf w) n out′
+    → Did part ws out at ws′ out′ (at + n)
 did-wrote part {h} {ws} {ws′} {out} w x e room p =
     let f : w ∷ [] ≡ part (stateOf ws) .written = ap (λ (o : Outcome). o .written) e in
     did-as part (did-one w x (rw f room) p) e
 
 -- the room
-pub did-end : {f : State → Outcome} {ws out ws′ out′ : List ℕ} {at n : ℕ} → Did f ws out at ws′ out′ n → Fits f ws out at → n ≤ length out
+pub did-end : {f : State → Outcome} {ws out ws′ out′ : List ℕ} {at n : ℕ} → Did f ws out at ws′ out′ n
+    → Fits f ws out at → n ≤ length out
 did-end d room = let e = d .written .place in omega arith
 
-pub did-length : {f : State → Outcome} {ws out ws′ out′ : List ℕ} {at n : ℕ} → Did f ws out at ws′ out′ n → length out′ ≡ length out
+pub did-length : {f : State → Outcome} {ws out ws′ out′ : List ℕ} {at n : ℕ} → Did f ws out at ws′ out′ n
+    → length out′ ≡ length out
 did-length d = ap length (d .written .output) ∙ simp length-sets
 
-pub fits-as : (f g : State → Outcome) (ws out : List ℕ) (at : ℕ) → f (stateOf ws) ≡ g (stateOf ws) → Fits g ws out at → Fits f ws out at
+pub fits-as : (f g : State → Outcome) (ws out : List ℕ) (at : ℕ) → f (stateOf ws) ≡ g (stateOf ws)
+    → Fits g ws out at → Fits f ws out at
 fits-as f g ws out at e room = rw e room
 
 -- a part that writes what a rule does has room in 182 bytes
-pub part-fits : (part : State → Outcome) (t : State) (o : Outcome) (room : ℕ) → part t ≡ o → size (o .written) ≤ fullRoom → fullRoom ≤ room
+pub part-fits : (part : State → Outcome) (t : State) (o : Outcome) (room : ℕ) → part t ≡ o
+    → size (o .written) ≤ fullRoom → fullRoom ≤ room
     → 0 + size (part t .written) ≤ room
 part-fits part t o room q h le = let f = ap (λ (x : Outcome). size (x .written)) q in omega arith
 
-pub event-fits : (part : State → Outcome) (s t : State) (e : Event) (room : ℕ) → part t ≡ ruleOf s e → fullRoom ≤ room → 0 + size (part t .written) ≤ room
+pub event-fits : (part : State → Outcome) (s t : State) (e : Event) (room : ℕ) → part t ≡ ruleOf s e → fullRoom ≤ room
+    → 0 + size (part t .written) ≤ room
 event-fits part s t e room q = part-fits part t (ruleOf s e) room q (event-size s e)
 
 module _ (f g : State → Outcome) (ws out : List ℕ) (at : ℕ) (room : Fits (λ s. andThen (f s) g) ws out at) where
-  both : size (andThen (f (stateOf ws)) g .written) ≡ size (f (stateOf ws) .written) + size (g (f (stateOf ws) .state) .written)
+  both : size (andThen (f (stateOf ws)) g .written) ≡ size (f (stateOf ws) .written) + size
+      (g (f (stateOf ws) .state) .written)
   unfolding andThen
   both = size-append (f (stateOf ws) .written) (g (f (stateOf ws) .state) .written)
 

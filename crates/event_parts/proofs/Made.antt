@@ -1,4 +1,5 @@
--- What the code of a part makes of a state, as the rules say it.
+-- For opening, and for the proposals of the crate above: what the code of a part makes of a state, as the rules say
+-- it.
 use mathlib.Core.Path.{_≡_, refl, sym, ap, _∙_}
 use mathlib.Core.Bool.{Bool, true, false}
 use Prim.Native.Nat.{ℕ, _+_, max}
@@ -8,7 +9,8 @@ use Rattle.seats.specs.Offices.{serves}
 use Rattle.seats.specs.declared.SeatSet.{SeatSet}
 use Rattle.records.specs.declared.Proposal.{Proposal}
 use Rattle.rules.specs.State.{Mode, Fast, Slow, State, keeping, storedAt}
-use Rattle.rules.specs.Rules.{notice, proposal, nothingWritten, opened, noticeOf, opens, nextNumber, ownProposal, proposed, hasRecipient, proposesFast, slowNumber, proposesSlow}
+use Rattle.rules.specs.Rules.{notice, proposal, nothingWritten, opened, noticeOf, opens, nextNumber, ownProposal}
+use Rattle.rules.specs.Rules.{proposed, hasRecipient, proposesFast, slowNumber, proposesSlow}
 use Rattle.rule_laws.proofs.Parts.{made-is}
 use Rattle.rules.specs.State.{withMode, withNumber, withStart, withStored}
 use Rattle.event_parts.specs.Parts.{countedAt}
@@ -27,7 +29,8 @@ counted-empty net s o e = rw e (go (serves net o))
     go true = refl
     go false = refl
 
-pub counted-there : (net : ℕ) (s : State) (o : ℕ) → storedAt s o .present ≡ true → ifb (serves net o) (storedAt s o .proposal .number) 0 ≡ countedAt net s o
+pub counted-there : (net : ℕ) (s : State) (o : ℕ) → storedAt s o .present ≡ true
+    → ifb (serves net o) (storedAt s o .proposal .number) 0 ≡ countedAt net s o
 counted-there net s o e = rw e
 
 pub next-is : (s : State) → 1 + max (s .number) (largest 16 (countedAt (s .net .bits) s)) ≡ nextNumber s
@@ -59,6 +62,7 @@ module _ (s : State) (p : Proposal) (e : p ≡ ownProposal Fast (nextNumber s) s
   unfolding proposesFast
   fast-alone h = let k = own-number s Fast (nextNumber s) p e in rw (← e, h, k)
 
-pub slow-written : (s : State) (p : Proposal) → p ≡ ownProposal Slow (slowNumber s) s → one (proposed Slow (p .number)) (proposal p) s ≡ proposesSlow s
+pub slow-written : (s : State) (p : Proposal) → p ≡ ownProposal Slow (slowNumber s) s
+    → one (proposed Slow (p .number)) (proposal p) s ≡ proposesSlow s
 unfolding proposesSlow
 slow-written s p e = let k = own-number s Slow (slowNumber s) p e in rw (← e, k)

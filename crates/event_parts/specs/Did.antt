@@ -1,4 +1,5 @@
--- What a part of an event leaves: the row of the state that it leaves, and what it writes behind what was written before.
+-- What a part of an event leaves: the row of the state that it leaves, and what it writes behind what was written
+-- before.
 use mathlib.Core.Path.{_≡_}
 use mathlib.Core.List.{List}
 use Prim.Native.Nat.{ℕ, _+_, _≤_}

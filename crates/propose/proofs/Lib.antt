@@ -1,2 +1,3 @@
-pub mod Looks
+-- The laws, in the order of the modules that they serve: slow_look, slow_test.
+mod Looks
 mod SlowCases

@@ -1,4 +1,4 @@
--- The look at the stored proposals, and what the slow test takes from it.
+-- For slow_look and slow_test: the look at the stored proposals, and what the slow test takes from it.
 use mathlib.Core.Path.{_≡_, refl, sym, ap, _∙_}
 use mathlib.Core.Bool.{Bool, true, false, _&&_, _||_, not}
 use Prim.Native.Nat.{ℕ, zero, suc, _+_, _<_, _^_, max}
@@ -11,7 +11,8 @@ use Rattle.seats.specs.Offices.{serves}
 use Rattle.seats.specs.declared.SeatSet.{SeatSet}
 use Rattle.propose.specs.declared.slow_look.Look.{Look}
 use Rattle.rules.specs.State.{Mode, None, Fast, Slow, Slot, State, slow, kindOf, storedAt, usedFor}
-use Rattle.rules.specs.Rules.{matching, matchingSlow, aboveOwn, usesOwn, calledIn, slowCalled, nextNumber, joinedNumber, slowNumber}
+use Rattle.rules.specs.Rules.{matching, matchingSlow, aboveOwn, usesOwn, calledIn, slowCalled, nextNumber}
+use Rattle.rules.specs.Rules.{joinedNumber, slowNumber}
 use Rattle.row.specs.Row.{modeOf}
 use Rattle.row.proofs.Parts.{mode-back}
 use Rattle.event_parts.specs.Bounds.{reach, Bounded}
@@ -22,12 +23,14 @@ pub look-none : (s : State) → lookOf 0 s ≡ record { slow = false; uses = fal
 unfolding lookOf anyb largest
 look-none s = refl
 
-look-one : (n : ℕ) (s : State) → lookOf (n + 1) s ≡ lookedOf (s .own) (s .number) (s .net .bits) n (storedAt s n) (lookOf n s)
+look-one : (n : ℕ) (s : State)
+    → lookOf (n + 1) s ≡ lookedOf (s .own) (s .number) (s .net .bits) n (storedAt s n) (lookOf n s)
 unfolding lookOf lookedOf anyb largest matching matchingSlow aboveOwn usesOwn
 look-one n s = rw add-one
 
 -- one turn of the loop, by what the code read
-pub look-next : (s : State) (n own number : ℕ) (net : SeatSet) (a b : Look) → own ≡ s .own → number ≡ s .number → net ≡ s .net → a ≡ lookOf n s
+pub look-next : (s : State) (n own number : ℕ) (net : SeatSet) (a b : Look) → own ≡ s .own → number ≡ s .number
+    → net ≡ s .net → a ≡ lookOf n s
     → b ≡ lookedOf own number (net .bits) n (storedAt s n) a → b ≡ lookOf (n + 1) s
 look-next s n own number net a b x y z w e = e ∙ rw (x, y, z, w) (sym (look-one n s))
 
@@ -44,7 +47,8 @@ none-counted true = refl
 none-counted false = refl
 
 -- an empty slot counts for nothing
-pub looked-empty : (own number net o : ℕ) (v : Slot) (a : Look) → v .present ≡ false → a ≡ lookedOf own number net o v a
+pub looked-empty : (own number net o : ℕ) (v : Slot) (a : Look) → v .present ≡ false
+    → a ≡ lookedOf own number net o v a
 unfolding lookedOf
 looked-empty own number net o v a e =
     let z : max 0 (a .joined) ≡ a .joined = omega arith in
@@ -76,10 +80,12 @@ called-by s = go (s .mode)
     go Fast = refl
     go Slow = refl
 
-pub called-is : (s : State) (mode : ℕ) (a : Look) → mode ≡ kindOf (s .mode) → a ≡ lookOf 16 s → calledBy (modeOf mode) a ≡ slowCalled s
+pub called-is : (s : State) (mode : ℕ) (a : Look) → mode ≡ kindOf (s .mode) → a ≡ lookOf 16 s
+    → calledBy (modeOf mode) a ≡ slowCalled s
 called-is s mode a e w = rw (e, w, mode-back (s .mode)) (called-by s)
 
-pub rest-called : (mode : ℕ) (a : Look) → (mode ≡ 0 → ⊥) → (mode ≡ 1 → ⊥) → a .above || a .uses ≡ calledBy (modeOf mode) a
+pub rest-called : (mode : ℕ) (a : Look) → (mode ≡ 0 → ⊥) → (mode ≡ 1 → ⊥)
+    → a .above || a .uses ≡ calledBy (modeOf mode) a
 rest-called zero a n m = absurd (n refl)
 rest-called (suc zero) a n m = absurd (m refl)
 rest-called (suc (suc k)) a n m = refl
@@ -89,7 +95,8 @@ unfolding slowNumber joinedNumber nextNumber lookOf
 number-by s = refl
 
 -- by what the code read
-pub number-found : (s : State) (number : ℕ) (a : Look) → number ≡ s .number → a ≡ lookOf 16 s → numberBy number a ≡ slowNumber s
+pub number-found : (s : State) (number : ℕ) (a : Look) → number ≡ s .number → a ≡ lookOf 16 s
+    → numberBy number a ≡ slowNumber s
 number-found s number a e w = rw (e, w) (number-by s)
 
 next-by : (s : State) → 1 + max (s .number) (lookOf 16 s .top) ≡ nextNumber s
@@ -97,7 +104,8 @@ unfolding nextNumber lookOf
 next-by s = refl
 
 -- the number fits where the state's numbers are bounded
-pub top-fits : (s : State) (number : ℕ) (a : Look) → Bounded reach s → number ≡ s .number → a ≡ lookOf 16 s → max number (a .top) + 1 < 2 ^ 32
+pub top-fits : (s : State) (number : ℕ) (a : Look) → Bounded reach s → number ≡ s .number → a ≡ lookOf 16 s
+    → max number (a .top) + 1 < 2 ^ 32
 top-fits s number a h e w =
     let b = next-bound reach s h in
     let n = next-by s in

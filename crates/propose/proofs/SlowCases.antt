@@ -1,4 +1,4 @@
--- The slow test by its cases.
+-- For slow_test: the slow test by its cases.
 use mathlib.Core.Path.{_≡_, refl}
 use mathlib.Core.Bool.{true, false}
 use Rattle.rules.specs.State.{Mode, None, Fast, Slow, State}

@@ -1,4 +1,4 @@
-// Steps 4 and 5 of a report: the next number, the fast proposal, whether it has a recipient; inner to the layer of the step.
+// Steps 4 and 5 of a report: the next number, the fast proposal, whether it has a recipient.
 use crate::own_proposals::keep_own;
 use crate::own_proposals::own_proposal;
 use event_parts::counted;
@@ -52,8 +52,8 @@ fn next_number(s: &[u32]) -> u32
     1 + larger(row::number(s), largest_stored(s))
 }
 
-// Some office other than the sender has a seat among the members. The sender has one itself (step 2), so this is so exactly where the
-// members are of more offices than one.
+// Some office other than the sender has a seat among the members. The sender has one itself (step 2), so this is so
+// exactly where the members are of more offices than one.
 fn has_recipient(p: Proposal) -> bool
     requires { ⌜ (p .sender < 16) × (serves (p .members .bits) (p .sender) ≡ true) ⌝ }
     ensures { λ r. ⌜ r ≡ hasRecipient p ⌝ }
@@ -65,7 +65,8 @@ fn has_recipient(p: Proposal) -> bool
 
 // For an office with a seat in the net view.
 pub fn proposes_fast(s: &mut [u32], out: &mut [u8], at: usize) -> usize
-    requires { ⌜ Row (now s) × Bounded reach (stateOf (now s)) × Fits proposesFast (now s) (now out) at × (seated (stateOf (now s)) ≡ true) ⌝ }
+    requires { ⌜ Row (now s) × Bounded reach (stateOf (now s))
+        × Fits proposesFast (now s) (now out) at × (seated (stateOf (now s)) ≡ true) ⌝ }
     ensures { λ n. ⌜ Did proposesFast (now (s .entry)) (now (out .entry)) at (now (s .exit)) (now (out .exit)) n ⌝ }
 {
     let p = own_proposal(s, FAST, next_number(s));

@@ -1,5 +1,14 @@
-// The proposals that an office makes: its own, fast and slow.
-pub mod fast;
+// The proposals that an office makes, on its row; fast and slow_test are inner to the layer of the step, and the rest
+// to this crate.
+
+// The own proposal, made and stored.
 mod own_proposals;
+
+// Steps 4 and 5 of a report.
+pub mod fast;
+
+// What the slow test looks at.
 mod slow_look;
+
+// The slow test.
 pub mod slow_test;

@@ -1,4 +1,4 @@
-// An office's own proposal, fast or slow: it is made of the state, and stored; inner to the layer of the step.
+// An office's own proposal, fast or slow: it is made of the state, and stored.
 use event_parts::counted;
 use records::Proposal;
 use seats::SeatSet;

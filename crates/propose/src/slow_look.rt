@@ -1,4 +1,4 @@
-// What the slow test looks at: the stored proposals; inner to the layer of the step.
+// What the slow test looks at: the stored proposals.
 use event_parts::counted;
 use event_parts::larger;
 use records::FAST;
@@ -10,8 +10,9 @@ ghost use Rattle.rules.specs.State.{storedAt};
 ghost use Rattle.row.specs.Row.{Row, stateOf, modeOf};
 ghost use Rattle.propose.specs.Look.{lookedOf, lookOf, calledBy, numberBy};
 
-// What the slow test asks of the stored proposals: of the matching ones whether there is a slow one, one that uses the own
-// number, a slow one above the own number, and the largest number of these last; and the largest number of the net view's offices.
+// What the slow test asks of the stored proposals: of the matching ones whether there is a slow one, one that uses
+// the own number, a slow one above the own number, and the largest number of these last; and the largest number of
+// the net view's offices.
 pub struct Look {
     pub slow: bool,
     pub uses: bool,

@@ -1,4 +1,4 @@
-// The slow test, on the row of an office; inner to the layer of the step.
+// The slow test, on the row of an office.
 use crate::own_proposals::keep_own;
 use crate::own_proposals::own_proposal;
 use crate::slow_look::Look;

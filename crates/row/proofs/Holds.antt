@@ -1,4 +1,4 @@
--- Words that are a row and hold a state.
+-- For the crates above: words that are a row and hold a state.
 use mathlib.Core.Path.{_≡_}
 use mathlib.Core.List.{List}
 use Prim.Native.Nat.{ℕ}

@@ -1,9 +1,9 @@
--- Which parts of a row a run of stores leaves as they were.
+-- For changes and slots: which parts of a row a run of stores leaves as they were.
 use mathlib.Core.Path.{_≡_, ap, _∙_}
 use mathlib.Core.Bool.{Bool, true, _&&_, _||_}
 use mathlib.Core.Logic.{_⊎_, inl, inr}
 use mathlib.Core.List.{List}
-use Prim.Native.Nat.{ℕ, _+_, _<_, _≤_}
+use Prim.Native.Nat.{ℕ, _+_, _*_, _<_, _≤_}
 use native.Mathlib.Omega.{arith}
 use lib.ListN.{length, getD}
 use lib.Seq.{sets, length-sets}
@@ -13,8 +13,9 @@ use Rattle.laws.proofs.Fin.{and-l, and-r, or-cases}
 use Rattle.laws.specs.Tab.{tab}
 use Rattle.laws.proofs.Tab.{tab-ext}
 use Rattle.laws.proofs.Seqs.{getD-sets-at, getD-sets-out}
-use Rattle.row.specs.Row.{ownPlace, modePlace, netPlace, membersPlace, slotPlace, startPlace, numberPlace, viewPlace, startsPlace, acceptedPlace, usedPlace, numbersPlace}
-use Rattle.row.specs.Row.{setAt, modeOf, sixteenWords, slotOf, Row}
+use Rattle.row.specs.Row.{ownPlace, modePlace, netPlace, membersPlace, slotLength, slotPlace, startPlace}
+use Rattle.row.specs.Row.{numberPlace, viewPlace, startsPlace, acceptedPlace, usedPlace, storedLength}
+use Rattle.row.specs.Row.{numbersPlace, setAt, modeOf, sixteenWords, slotOf, Row}
 use Rattle.row.proofs.Parts.{viewAt}
 
 -- Two runs of stores, xs from i on and then ys from j on; one store is a run, and a run may be empty.
@@ -31,35 +32,49 @@ module _ (ws : List ℕ) (i : ℕ) (xs : List ℕ) (j : ℕ) (ys : List ℕ) whe
 
   pub word-kept : (k : ℕ) → Clear k 1 → getD stores k 0 ≡ getD ws k 0
   word-kept k h =
-      getD-sets-out ys (sets ws i xs) j k 0 (λ a b. h .1 (omega arith) b) ∙ getD-sets-out xs ws i k 0 (λ a b. h .0 (omega arith) b)
+      getD-sets-out ys (sets ws i xs) j k 0 (λ a b. h .1 (omega arith) b)
+      ∙ getD-sets-out xs ws i k 0 (λ a b. h .0 (omega arith) b)
 
   set-kept : (k : ℕ) → Clear k 2 → setAt stores k ≡ setAt ws k
   unfolding setAt
   set-kept k h =
-      rw (word-kept k (part-clear k 2 k 1 h (omega arith) (omega arith)), word-kept (k + 1) (part-clear k 2 (k + 1) 1 h (omega arith) (omega arith)))
+      rw (
+        word-kept k (part-clear k 2 k 1 h (omega arith) (omega arith)),
+        word-kept (k + 1) (part-clear k 2 (k + 1) 1 h (omega arith) (omega arith)),
+      )
 
   sixteen-kept : (k : ℕ) → Clear k 16 → sixteenWords stores k ≡ sixteenWords ws k
   sixteen-kept k h =
       tab-ext 16 (λ o. getD stores (k + o) 0) (λ o. getD ws (k + o) 0)
       (λ o l. word-kept (k + o) (part-clear k 16 (k + o) 1 h (omega arith) (omega arith)))
 
-  pub slot-kept : (o : ℕ) → Clear (slotPlace o) 5 → Clear (numbersPlace o) 18 → slotOf stores o ≡ slotOf ws o
+  pub slot-kept : (o : ℕ) → Clear (slotPlace o) slotLength → Clear (numbersPlace o) storedLength
+      → slotOf stores o ≡ slotOf ws o
   unfolding slotOf
   slot-kept o h g =
       rw (
-        word-kept (slotPlace o) (part-clear (slotPlace o) 5 (slotPlace o) 1 h (omega arith) (omega arith)),
-        word-kept (slotPlace o + 1) (part-clear (slotPlace o) 5 (slotPlace o + 1) 1 h (omega arith) (omega arith)),
-        word-kept (slotPlace o + 2) (part-clear (slotPlace o) 5 (slotPlace o + 2) 1 h (omega arith) (omega arith)),
-        set-kept (slotPlace o + 3) (part-clear (slotPlace o) 5 (slotPlace o + 3) 2 h (omega arith) (omega arith)),
-        word-kept (numbersPlace o) (part-clear (numbersPlace o) 18 (numbersPlace o) 1 g (omega arith) (omega arith)),
-        word-kept (numbersPlace o + 1) (part-clear (numbersPlace o) 18 (numbersPlace o + 1) 1 g (omega arith) (omega arith)),
-        sixteen-kept (numbersPlace o + 2) (part-clear (numbersPlace o) 18 (numbersPlace o + 2) 16 g (omega arith) (omega arith)),
+        word-kept (slotPlace o) (part-clear (slotPlace o) slotLength (slotPlace o) 1 h (omega arith) (omega arith)),
+        word-kept (slotPlace o + 1)
+            (part-clear (slotPlace o) slotLength (slotPlace o + 1) 1 h (omega arith) (omega arith)),
+        word-kept (slotPlace o + 2)
+            (part-clear (slotPlace o) slotLength (slotPlace o + 2) 1 h (omega arith) (omega arith)),
+        set-kept (slotPlace o + 3)
+            (part-clear (slotPlace o) slotLength (slotPlace o + 3) 2 h (omega arith) (omega arith)),
+        word-kept (numbersPlace o)
+            (part-clear (numbersPlace o) storedLength (numbersPlace o) 1 g (omega arith) (omega arith)),
+        word-kept (numbersPlace o + 1)
+            (part-clear (numbersPlace o) storedLength (numbersPlace o + 1) 1 g (omega arith) (omega arith)),
+        sixteen-kept (numbersPlace o + 2)
+            (part-clear (numbersPlace o) storedLength (numbersPlace o + 2) 16 g (omega arith) (omega arith)),
       )
 
-  slots-kept : Clear (slotPlace 0) 80 → Clear (numbersPlace 0) 288 → tab 16 (slotOf stores) ≡ tab 16 (slotOf ws)
+  slots-kept : Clear (slotPlace 0) (slotLength * 16) → Clear (numbersPlace 0) (storedLength * 16)
+      → tab 16 (slotOf stores) ≡ tab 16 (slotOf ws)
   slots-kept h g =
       tab-ext 16 (slotOf stores) (slotOf ws)
-      (λ o l. slot-kept o (part-clear (slotPlace 0) 80 (slotPlace o) 5 h (omega arith) (omega arith)) (part-clear (numbersPlace 0) 288 (numbersPlace o) 18 g (omega arith) (omega arith)))
+      (λ o l. slot-kept o (part-clear (slotPlace 0) (slotLength * 16) (slotPlace o) slotLength h (omega arith)
+      (omega arith)) (part-clear (numbersPlace 0) (storedLength * 16) (numbersPlace o) storedLength g
+      (omega arith) (omega arith)))
 
   view-kept : Clear membersPlace 2 → Clear viewPlace 17 → viewAt stores ≡ viewAt ws
   view-kept h g =
@@ -73,42 +88,52 @@ module _ (ws : List ℕ) (i : ℕ) (xs : List ℕ) (j : ℕ) (ys : List ℕ) whe
   stores-long = length-sets (sets ws i xs) j ys ∙ length-sets ws i xs
 
   -- in the first run, and in the second
-  pub in-first : (p k : ℕ) → p ≡ i + k → k < length xs → i + length xs ≤ length ws → (j ≤ p → p < j + length ys → ⊥) → getD stores p 0 ≡ getD xs k 0
+  pub in-first : (p k : ℕ) → p ≡ i + k → k < length xs → i + length xs ≤ length ws → (j ≤ p → p < j + length ys → ⊥)
+      → getD stores p 0 ≡ getD xs k 0
   in-first p k e l z h = getD-sets-out ys (sets ws i xs) j p 0 h ∙ rw e (getD-sets-at xs ws i k 0 l z)
 
   pub in-second : (p k : ℕ) → p ≡ j + k → k < length ys → j + length ys ≤ length ws → getD stores p 0 ≡ getD ys k 0
   in-second p k e l z = let n = length-sets ws i xs in rw e (getD-sets-at ys (sets ws i xs) j k 0 l (omega arith))
 
-  -- The parts that are kept where the stores fall into the places from lo to hi and from lo₂ to hi₂: each by a test on these.
+  -- The parts that are kept where the stores fall into the places from lo to hi and from lo₂ to hi₂: each by a test
+  -- on these.
   pub record Kept (free : ℕ → ℕ → Bool) : Type 0 where
     pub own : free ownPlace 1 ≡ true → getD stores ownPlace 0 ≡ getD ws ownPlace 0
     pub mode : free modePlace 1 ≡ true → modeOf (getD stores modePlace 0) ≡ modeOf (getD ws modePlace 0)
     pub net : free netPlace 2 ≡ true → setAt stores netPlace ≡ setAt ws netPlace
-    pub stored : free (slotPlace 0) 80 && free (numbersPlace 0) 288 ≡ true → tab 16 (slotOf stores) ≡ tab 16 (slotOf ws)
+    pub stored : free (slotPlace 0) (slotLength * 16) && free (numbersPlace 0) (storedLength * 16) ≡ true
+        → tab 16 (slotOf stores) ≡ tab 16 (slotOf ws)
     pub accepted : free acceptedPlace 16 ≡ true → sixteenWords stores acceptedPlace ≡ sixteenWords ws acceptedPlace
     pub view : free membersPlace 2 && free viewPlace 17 ≡ true → viewAt stores ≡ viewAt ws
     pub start : free startPlace 1 ≡ true → getD stores startPlace 0 ≡ getD ws startPlace 0
     pub number : free numberPlace 1 ≡ true → getD stores numberPlace 0 ≡ getD ws numberPlace 0
     pub used : free usedPlace 16 ≡ true → sixteenWords stores usedPlace ≡ sixteenWords ws usedPlace
     pub modeWord : free modePlace 1 ≡ true → Row ws → getD stores modePlace 0 ≤ 2
-    pub flags : free (slotPlace 0) 80 ≡ true → Row ws → (o : ℕ) → o < 16 → getD stores (slotPlace o) 0 ≤ 1
+    pub flags : free (slotPlace 0) (slotLength * 16) ≡ true → Row ws → (o : ℕ) → o < 16
+        → getD stores (slotPlace o) 0 ≤ 1
 
   abbrev pub apart : ℕ → ℕ → ℕ → ℕ → Bool
   apart lo hi k n = leb hi k || leb (k + n) lo
 
-  pub kept : (lo hi lo₂ hi₂ : ℕ) → lo ≤ i → i + length xs ≤ hi → lo₂ ≤ j → j + length ys ≤ hi₂ → Kept (λ k n. apart lo hi k n && apart lo₂ hi₂ k n)
+  pub kept : (lo hi lo₂ hi₂ : ℕ) → lo ≤ i → i + length xs ≤ hi → lo₂ ≤ j → j + length ys ≤ hi₂
+      → Kept (λ k n. apart lo hi k n && apart lo₂ hi₂ k n)
   kept lo hi lo₂ hi₂ a b c d = record {
     own = λ t. word-kept ownPlace (clear ownPlace 1 t);
     mode = λ t. ap modeOf (word-kept modePlace (clear modePlace 1 t));
     net = λ t. set-kept netPlace (clear netPlace 2 t);
-    stored = λ t. slots-kept (clear (slotPlace 0) 80 (and-l _ (free (numbersPlace 0) 288) t)) (clear (numbersPlace 0) 288 (and-r (free (slotPlace 0) 80) _ t));
+    stored = λ t. slots-kept
+        (clear (slotPlace 0) (slotLength * 16) (and-l _ (free (numbersPlace 0) (storedLength * 16)) t))
+        (clear (numbersPlace 0) (storedLength * 16) (and-r (free (slotPlace 0) (slotLength * 16)) _ t));
     accepted = λ t. sixteen-kept acceptedPlace (clear acceptedPlace 16 t);
-    view = λ t. view-kept (clear membersPlace 2 (and-l _ (free viewPlace 17) t)) (clear viewPlace 17 (and-r (free membersPlace 2) _ t));
+    view = λ t. view-kept (clear membersPlace 2 (and-l _ (free viewPlace 17) t))
+        (clear viewPlace 17 (and-r (free membersPlace 2) _ t));
     start = λ t. word-kept startPlace (clear startPlace 1 t);
     number = λ t. word-kept numberPlace (clear numberPlace 1 t);
     used = λ t. sixteen-kept usedPlace (clear usedPlace 16 t);
     modeWord = λ t r. rw (word-kept modePlace (clear modePlace 1 t)) (r .mode);
-    flags = λ t r o l. rw (word-kept (slotPlace o) (part-clear (slotPlace 0) 80 (slotPlace o) 1 (clear (slotPlace 0) 80 t) (omega arith) (omega arith))) (r .flags o l);
+    flags = λ t r o l. rw (word-kept (slotPlace o)
+        (part-clear (slotPlace 0) (slotLength * 16) (slotPlace o) 1 (clear (slotPlace 0) (slotLength * 16) t)
+        (omega arith) (omega arith))) (r .flags o l);
   }
     where
       free : ℕ → ℕ → Bool
@@ -122,5 +147,7 @@ module _ (ws : List ℕ) (i : ℕ) (xs : List ℕ) (j : ℕ) (ys : List ℕ) whe
           go (inr e) = let w = leb-true (k + n) lo e in omega arith
 
       clear : (k n : ℕ) → apart lo hi k n && apart lo₂ hi₂ k n ≡ true → Clear k n
-      clear k n t =
-          (side lo hi k n i (length xs) (and-l (apart lo hi k n) (apart lo₂ hi₂ k n) t) a b, side lo₂ hi₂ k n j (length ys) (and-r (apart lo hi k n) (apart lo₂ hi₂ k n) t) c d)
+      clear k n t = (
+        side lo hi k n i (length xs) (and-l (apart lo hi k n) (apart lo₂ hi₂ k n) t) a b,
+        side lo₂ hi₂ k n j (length ys) (and-r (apart lo hi k n) (apart lo₂ hi₂ k n) t) c d,
+      )

@@ -1,4 +1,4 @@
--- The tests of a row: what the loops compute, and what they say of the state.
+-- For form and checks: the tests of a row, what the loops compute, and what they say of the state.
 use mathlib.Core.Path.{_≡_, refl, sym, ap}
 use mathlib.Core.Bool.{Bool, true, false, not, _&&_, _||_}
 use mathlib.Core.List.{List}
@@ -16,8 +16,10 @@ use Rattle.rules.specs.State.{storedAt}
 use Rattle.rules.specs.Bounds.{SlotCapped, Capped}
 use Rattle.records.specs.Numbers.{limit, within}
 use Rattle.rules.specs.Refusals.{slotWithin, wellFormed}
-use Rattle.row.specs.Row.{rowLength, ownPlace, modePlace, slotPlace, startPlace, numberPlace, viewPlace, startsPlace, acceptedPlace, usedPlace, numbersPlace, numbersCount}
-use Rattle.row.specs.Row.{sixteenWords, slotOf, stateOf, Row, isRow, soundRow, low, lowRow}
+use Rattle.row.specs.Row.{ownPlace, modePlace, slotPlace, startPlace, numberPlace, viewPlace, startsPlace}
+use Rattle.row.specs.Row.{acceptedPlace, usedPlace, storedLength, numbersPlace, rowLength, numbersCount}
+use Rattle.row.specs.Row.{ownNumbers, sixteenWords, slotOf, stateOf, Row, areFlags, isRow, soundRow, low}
+use Rattle.row.specs.Row.{lowRow}
 use Rattle.row.proofs.Parts.{row-stored}
 
 -- two numbers are at most low, thirty ones, just where their digits together are
@@ -45,7 +47,7 @@ pub row-not : (ws : List ℕ) → (length ws ≡ rowLength → ⊥) → isRow ws
 unfolding isRow
 row-not ws n = rw (ne-eqb (length ws) rowLength n)
 
-pub row-tests : (ws : List ℕ) → length ws ≡ rowLength → isRow ws ≡ leb (getD ws modePlace 0) 2 && allb 16 (λ o. leb (getD ws (slotPlace o) 0) 1)
+pub row-tests : (ws : List ℕ) → length ws ≡ rowLength → isRow ws ≡ leb (getD ws modePlace 0) 2 && areFlags ws
 unfolding isRow
 row-tests ws e = rw (eq-eqb (length ws) rowLength e)
 
@@ -54,11 +56,12 @@ unfolding isRow
 row-is ws e =
     let n = eqb (length ws) rowLength in
     let m = leb (getD ws modePlace 0) 2 in
-    let f = allb 16 (λ o. leb (getD ws (slotPlace o) 0) 1) in
+    let f = areFlags ws in
     let head = and-l (n && m) f e in
     record {
       long = eqb-true (length ws) rowLength (and-l n m head);
-      flags = λ o h. leb-true (getD ws (slotPlace o) 0) 1 (allb-out 16 (λ i. leb (getD ws (slotPlace i) 0) 1) (and-r (n && m) f e) o h);
+      flags = λ o h. leb-true (getD ws (slotPlace o) 0) 1
+          (allb-out 16 (λ i. leb (getD ws (slotPlace i) 0) 1) (and-r (n && m) f e) o h);
       mode = leb-true (getD ws modePlace 0) 2 (and-r n m head);
     }
 
@@ -67,7 +70,8 @@ pub not-low : (ws : List ℕ) → isRow ws ≡ false → lowRow ws ≡ false
 unfolding lowRow
 not-low ws e = rw e
 
-pub low-words : (ws : List ℕ) → isRow ws ≡ true → lowRow ws ≡ leb (getD ws ownPlace 0) 15 && allb numbersCount (λ k. leb (getD ws (startPlace + k) 0) low)
+pub low-words : (ws : List ℕ) → isRow ws ≡ true
+    → lowRow ws ≡ leb (getD ws ownPlace 0) 15 && allb numbersCount (λ k. leb (getD ws (startPlace + k) 0) low)
 unfolding lowRow
 low-words ws e = rw e
 
@@ -75,19 +79,22 @@ pub not-sound : (ws : List ℕ) → isRow ws ≡ false → soundRow ws ≡ false
 unfolding soundRow
 not-sound ws e = rw e
 
-sixteen-within : (ws : List ℕ) (k : ℕ) → allb 16 (λ o. within (getD ws (k + o) 0)) ≡ allb 16 (λ o. within (getD (sixteenWords ws k) o 0))
+sixteen-within : (ws : List ℕ) (k : ℕ)
+    → allb 16 (λ o. within (getD ws (k + o) 0)) ≡ allb 16 (λ o. within (getD (sixteenWords ws k) o 0))
 sixteen-within ws k =
     allb-ext 16 (λ o. within (getD ws (k + o) 0)) (λ o. within (getD (sixteenWords ws k) o 0))
     (λ o h. ap within (sym (getD-tab 16 (λ j. getD ws (k + j) 0) o 0 h)))
 
 pub slot-words : (ws : List ℕ) (o : ℕ) → o < 16
     → slotWithin (storedAt (stateOf ws) o) ≡ not (storedAt (stateOf ws) o .present)
-    || (within (getD ws (numbersPlace o) 0) && within (getD ws (numbersPlace o + 1) 0) && allb 16 (λ k. within (getD ws (numbersPlace o + 2 + k) 0)))
+    || (within (getD ws (numbersPlace o) 0) && within (getD ws (numbersPlace o + 1) 0)
+    && allb 16 (λ k. within (getD ws (numbersPlace o + 2 + k) 0)))
 unfolding slotWithin slotOf
 slot-words ws o lt = rw (row-stored ws o lt, sixteen-within ws (numbersPlace o + 2))
 
 pub well-words : (ws : List ℕ)
-    → wellFormed (stateOf ws) ≡ leb (getD ws ownPlace 0) 15 && within (getD ws viewPlace 0) && within (getD ws startPlace 0) && within (getD ws numberPlace 0)
+    → wellFormed (stateOf ws) ≡ leb (getD ws ownPlace 0) 15 && within (getD ws viewPlace 0)
+    && within (getD ws startPlace 0) && within (getD ws numberPlace 0)
     && allb 16 (λ k. within (getD ws (startsPlace + k) 0)) && allb 16 (λ k. within (getD ws (acceptedPlace + k) 0))
     && allb 16 (λ k. within (getD ws (usedPlace + k) 0)) && allb 16 (λ o. slotWithin (storedAt (stateOf ws) o))
 unfolding wellFormed stateOf
@@ -109,7 +116,8 @@ sound-well ws e = and-r (isRow ws) (wellFormed (stateOf ws)) e
 module _ (ws : List ℕ) (e : lowRow ws ≡ true) where
   low-tests : isRow ws && leb (getD ws ownPlace 0) 15 ≡ true
   unfolding lowRow
-  low-tests = and-l (isRow ws && leb (getD ws ownPlace 0) 15) (allb numbersCount (λ k. leb (getD ws (startPlace + k) 0) low)) e
+  low-tests = and-l (isRow ws && leb (getD ws ownPlace 0) 15)
+      (allb numbersCount (λ k. leb (getD ws (startPlace + k) 0) low)) e
 
   low-isRow : isRow ws ≡ true
   low-isRow = and-l (isRow ws) (leb (getD ws ownPlace 0) 15) low-tests
@@ -121,26 +129,35 @@ module _ (ws : List ℕ) (e : lowRow ws ≡ true) where
   unfolding lowRow
   low-number p k q l =
       rw q (leb-true (getD ws (startPlace + k) 0) low
-      (allb-out numbersCount (λ k. leb (getD ws (startPlace + k) 0) low) (and-r (isRow ws && leb (getD ws ownPlace 0) 15) _ e) k l))
+      (allb-out numbersCount (λ k. leb (getD ws (startPlace + k) 0) low)
+      (and-r (isRow ws && leb (getD ws ownPlace 0) 15) _ e) k l))
 
   low-within : (p k : ℕ) → p ≡ startPlace + k → k < numbersCount → within (getD ws p 0) ≡ true
   low-within p k q l = let n = low-number p k q l in le-leb (getD ws p 0) limit (omega arith)
 
-  low-sixteen : (at k : ℕ) → at ≡ startPlace + k → k + 16 ≤ numbersCount → allb 16 (λ j. within (getD ws (at + j) 0)) ≡ true
-  low-sixteen at k q l = allb-in 16 (λ j. within (getD ws (at + j) 0)) (λ j h. low-within (at + j) (k + j) (omega arith) (omega arith))
+  low-sixteen : (at k : ℕ) → at ≡ startPlace + k → k + 16 ≤ numbersCount
+      → allb 16 (λ j. within (getD ws (at + j) 0)) ≡ true
+  low-sixteen at k q l = allb-in
+      16 (λ j. within (getD ws (at + j) 0)) (λ j h. low-within (at + j) (k + j) (omega arith) (omega arith))
 
   low-slot : (o : ℕ) → o < 16 → slotWithin (storedAt (stateOf ws) o) ≡ true
   low-slot o h =
       rw (slot-words ws o h)
-      (or-in (not (storedAt (stateOf ws) o .present)) _ (and-in _ _ (and-in _ _ (low-within (numbersPlace o) (51 + 18 * o) (omega arith) (omega arith)) (low-within (numbersPlace o + 1) (52 + 18 * o) (omega arith) (omega arith)))
-      (low-sixteen (numbersPlace o + 2) (53 + 18 * o) (omega arith) (omega arith))))
+      (or-in (not (storedAt (stateOf ws) o .present)) _
+      (and-in _ _ (and-in _ _
+      (low-within (numbersPlace o) (ownNumbers + storedLength * o) (omega arith) (omega arith))
+      (low-within (numbersPlace o + 1) (ownNumbers + storedLength * o + 1) (omega arith) (omega arith)))
+      (low-sixteen (numbersPlace o + 2) (ownNumbers + storedLength * o + 2) (omega arith) (omega arith))))
 
   low-well : wellFormed (stateOf ws) ≡ true
   low-well =
       rw (well-words ws)
       (and-in _ _ (and-in _ _ (and-in _ _ (and-in _ _ (and-in _ _ (and-in _ _ (and-in _ _ low-own
-      (low-within viewPlace 2 (omega arith) (omega arith))) (low-within startPlace 0 (omega arith) (omega arith))) (low-within numberPlace 1 (omega arith) (omega arith)))
-      (low-sixteen startsPlace 3 (omega arith) (omega arith))) (low-sixteen acceptedPlace 19 (omega arith) (omega arith))) (low-sixteen usedPlace 35 (omega arith) (omega arith)))
+      (low-within viewPlace 2 (omega arith) (omega arith))) (low-within startPlace 0 (omega arith) (omega arith)))
+      (low-within numberPlace 1 (omega arith) (omega arith)))
+      (low-sixteen startsPlace 3 (omega arith) (omega arith)))
+      (low-sixteen acceptedPlace 19 (omega arith) (omega arith)))
+      (low-sixteen usedPlace 35 (omega arith) (omega arith)))
       (allb-in 16 (λ o. slotWithin (storedAt (stateOf ws) o)) low-slot))
 
   pub low-sound : soundRow ws ≡ true
@@ -149,8 +166,8 @@ module _ (ws : List ℕ) (e : lowRow ws ≡ true) where
   low-stored : (o : ℕ) → o < 16 → SlotCapped low low (storedAt (stateOf ws) o)
   unfolding slotOf
   low-stored o h = rw (row-stored ws o h) (record {
-    start = λ p. low-number (numbersPlace o) (51 + 18 * o) (omega arith) (omega arith);
-    number = λ p. low-number (numbersPlace o + 1) (52 + 18 * o) (omega arith) (omega arith);
+    start = λ p. low-number (numbersPlace o) (ownNumbers + storedLength * o) (omega arith) (omega arith);
+    number = λ p. low-number (numbersPlace o + 1) (ownNumbers + storedLength * o + 1) (omega arith) (omega arith);
   })
 
   pub low-is : Capped low low (stateOf ws)
@@ -163,8 +180,10 @@ module _ (ws : List ℕ) (e : lowRow ws ≡ true) where
   }
 
 -- the numbers that an event builds on are low
-pub capped-is : (ws : List ℕ) → leb (getD ws startPlace 0) low && leb (getD ws numberPlace 0) low && leb (getD ws viewPlace 0) low
-    && allb 16 (λ o. leb (getD ws (numbersPlace o + 1) 0) low && leb (getD ws (numbersPlace o) 0) low) ≡ true → Capped low low (stateOf ws)
+pub capped-is : (ws : List ℕ) → leb (getD ws startPlace 0) low && leb (getD ws numberPlace 0) low
+    && leb (getD ws viewPlace 0) low
+    && allb 16 (λ o. leb (getD ws (numbersPlace o + 1) 0) low && leb (getD ws (numbersPlace o) 0) low) ≡ true
+    → Capped low low (stateOf ws)
 unfolding stateOf slotOf
 capped-is ws e =
     let a = leb (getD ws startPlace 0) low in
@@ -187,4 +206,5 @@ capped-is ws e =
 pub is-row : (ws : List ℕ) → Row ws → isRow ws ≡ true
 unfolding isRow
 is-row ws r =
-    and-in _ _ (and-in _ _ (eq-eqb (length ws) rowLength (r .long)) (le-leb _ _ (r .mode))) (allb-in 16 _ (λ o l. le-leb _ _ (r .flags o l)))
+    and-in _ _ (and-in _ _ (eq-eqb (length ws) rowLength (r .long)) (le-leb _ _ (r .mode)))
+    (allb-in 16 _ (λ o l. le-leb _ _ (r .flags o l)))

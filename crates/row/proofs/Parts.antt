@@ -1,4 +1,4 @@
--- The parts of a row: what stands in each, and a part from its words.
+-- For readers: the parts of a row, what stands in each, and a part from its words.
 use mathlib.Core.Path.{_≡_, refl, sym}
 use mathlib.Core.Bool.{Bool, true, false, not}
 use mathlib.Core.List.{List}
@@ -10,9 +10,12 @@ use Rattle.laws.specs.Tab.{tab}
 use Rattle.laws.proofs.Tab.{getD-tab, filled}
 use Rattle.seats.specs.declared.SeatSet.{SeatSet}
 use Rattle.records.specs.declared.View.{View}
-use Rattle.rules.specs.State.{Mode, None, Fast, Slow, Slot, State, nothing, storedAt, acceptedAt, usedAt, usedFor, kindOf}
-use Rattle.row.specs.Row.{ownPlace, modePlace, netPlace, membersPlace, slotPlace, startPlace, numberPlace, viewPlace, startsPlace, acceptedPlace, usedPlace, numbersPlace}
-use Rattle.row.specs.Row.{word, flag, slotWords, slotNumbers, setAt, modeOf, sixteenWords, slotOf, stateOf}
+use Rattle.rules.specs.State.{Mode, None, Fast, Slow, Slot, State, nothing, storedAt, acceptedAt, usedAt, usedFor}
+use Rattle.rules.specs.State.{kindOf}
+use Rattle.row.specs.Row.{ownPlace, modePlace, netPlace, membersPlace, slotLength, slotPlace, startPlace}
+use Rattle.row.specs.Row.{numberPlace, viewPlace, startsPlace, acceptedPlace, usedPlace, storedLength}
+use Rattle.row.specs.Row.{numbersPlace, word, flag, slotWords, slotNumbers, setAt, modeOf, sixteenWords, slotOf}
+use Rattle.row.specs.Row.{stateOf}
 
 -- what stands for an office
 pub row-accepted : (ws : List ℕ) (o : ℕ) → o < 16 → acceptedAt (stateOf ws) o ≡ getD ws (acceptedPlace + o) 0
@@ -27,7 +30,8 @@ pub row-stored : (ws : List ℕ) (o : ℕ) → o < 16 → storedAt (stateOf ws) 
 unfolding stateOf
 row-stored ws o lt = getD-tab 16 (slotOf ws) o nothing lt
 
-pub stored-used-is : (ws : List ℕ) (o k : ℕ) → o < 16 → k < 16 → usedFor (storedAt (stateOf ws) o .proposal) k ≡ getD ws (numbersPlace o + 2 + k) 0
+pub stored-used-is : (ws : List ℕ) (o k : ℕ) → o < 16 → k < 16
+    → usedFor (storedAt (stateOf ws) o .proposal) k ≡ getD ws (numbersPlace o + 2 + k) 0
 unfolding slotOf
 stored-used-is ws o k lt l = rw (row-stored ws o lt) (getD-tab 16 (λ j. getD ws (numbersPlace o + 2 + j) 0) k 0 l)
 
@@ -45,7 +49,11 @@ mode-back Slow = refl
 
 -- a state by its parts
 abbrev pub viewAt : List ℕ → View
-viewAt ws = record { number = getD ws viewPlace 0; members = setAt ws membersPlace; starts = sixteenWords ws startsPlace }
+viewAt ws = record {
+  number = getD ws viewPlace 0;
+  members = setAt ws membersPlace;
+  starts = sixteenWords ws startsPlace;
+}
 
 pub record Parts (ws : List ℕ) (t : State) : Type 0 where
   pub own : getD ws ownPlace 0 ≡ t .own
@@ -63,12 +71,14 @@ unfolding stateOf
 by-parts ws t p = rw (p .own, p .mode, p .net, p .stored, p .accepted, p .view, p .start, p .number, p .used)
 
 -- a set of seats, from its two words
-pub set-read : (ws : List ℕ) (k : ℕ) (x : SeatSet) → getD ws k 0 ≡ x .bits % word → getD ws (k + 1) 0 ≡ x .bits / word → setAt ws k ≡ x
+pub set-read : (ws : List ℕ) (k : ℕ) (x : SeatSet) → getD ws k 0 ≡ x .bits % word → getD ws (k + 1) 0 ≡ x .bits / word
+    → setAt ws k ≡ x
 unfolding setAt
 set-read ws k x a b = let e : getD ws k 0 + word * getD ws (k + 1) 0 ≡ x .bits = omega arith in rw e
 
 -- sixteen numbers, from their words
-pub sixteen-read : (ws : List ℕ) (k : ℕ) (l : List ℕ) → length l ≡ 16 → ((j : ℕ) → j < 16 → getD ws (k + j) 0 ≡ getD l j 0) → sixteenWords ws k ≡ l
+pub sixteen-read : (ws : List ℕ) (k : ℕ) (l : List ℕ) → length l ≡ 16
+    → ((j : ℕ) → j < 16 → getD ws (k + j) 0 ≡ getD l j 0) → sixteenWords ws k ≡ l
 sixteen-read ws k l e h = sym (filled 16 (λ j. getD ws (k + j) 0) 0 l e (λ j m. sym (h j m)))
 
 -- a presence word
@@ -82,8 +92,9 @@ flag-le false = omega arith
 
 -- a slot, from its words and its numbers
 pub slot-read : (ws : List ℕ) (o : ℕ) (v : Slot) → length (v .proposal .used) ≡ 16
-    → ((p k : ℕ) → p ≡ slotPlace o + k → k < 5 → getD ws p 0 ≡ getD (slotWords v) k 0)
-    → ((p k : ℕ) → p ≡ numbersPlace o + k → k < 18 → getD ws p 0 ≡ getD (slotNumbers v) k 0) → slotOf ws o ≡ v
+    → ((p k : ℕ) → p ≡ slotPlace o + k → k < slotLength → getD ws p 0 ≡ getD (slotWords v) k 0)
+    → ((p k : ℕ) → p ≡ numbersPlace o + k → k < storedLength → getD ws p 0 ≡ getD (slotNumbers v) k 0)
+    → slotOf ws o ≡ v
 unfolding slotOf
 slot-read ws o v n f g =
     rw (
@@ -91,8 +102,10 @@ slot-read ws o v n f g =
       flag-read (v .present),
       f (slotPlace o + 1) 1 (omega arith) (omega arith),
       f (slotPlace o + 2) 2 (omega arith) (omega arith),
-      set-read ws (slotPlace o + 3) (v .proposal .members) (f (slotPlace o + 3) 3 (omega arith) (omega arith)) (f (slotPlace o + 3 + 1) 4 (omega arith) (omega arith)),
+      set-read ws (slotPlace o + 3) (v .proposal .members) (f (slotPlace o + 3) 3 (omega arith) (omega arith))
+          (f (slotPlace o + 3 + 1) 4 (omega arith) (omega arith)),
       g (numbersPlace o) 0 (omega arith) (omega arith),
       g (numbersPlace o + 1) 1 (omega arith) (omega arith),
-      sixteen-read ws (numbersPlace o + 2) (v .proposal .used) n (λ j h. g (numbersPlace o + 2 + j) (suc (suc j)) (omega arith) (omega arith)),
+      sixteen-read ws (numbersPlace o + 2) (v .proposal .used) n
+          (λ j h. g (numbersPlace o + 2 + j) (suc (suc j)) (omega arith) (omega arith)),
     )

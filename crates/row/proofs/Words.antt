@@ -1,8 +1,9 @@
--- Words and state determine each other: a row is the words of its state, and the words of a state that has its lengths hold that state.
+-- For the crates above: words and state determine each other. A row is the words of its state, and the words of a
+-- state that has its lengths hold that state.
 use mathlib.Core.Path.{_≡_, refl, sym, ap, _∙_}
 use mathlib.Core.Bool.{not}
 use mathlib.Core.List.{List, [], _∷_, _++_}
-use Prim.Native.Nat.{ℕ, zero, suc, _+_, _*_, _/_, _%_, _<_, _≤_}
+use Prim.Native.Nat.{ℕ, zero, suc, _+_, _-_, _*_, _/_, _%_, _<_, _≤_}
 use native.Mathlib.Omega.{arith}
 use native.Mathlib.Decide.{decLt}
 use lib.ListN.{length, getD, length-append, List·getD-append, List·getD-eq-default}
@@ -14,9 +15,16 @@ use Rattle.laws.proofs.Seqs.{tab-add, tab-self}
 use Rattle.rules.specs.State.{Mode, None, Fast, Slow, Slot, State, kindOf, zeros, nothing, storedAt}
 use Rattle.rules.specs.Rules.{fresh}
 use Rattle.rule_laws.proofs.Shapes.{Shaped}
-use Rattle.row.specs.Row.{word, rowLength, ownPlace, modePlace, netPlace, membersPlace, slotPlace, startPlace, numberPlace, viewPlace, startsPlace, acceptedPlace, usedPlace, numbersPlace}
-use Rattle.row.specs.Row.{setAt, modeOf, sixteenWords, slotOf, stateOf, flag, setWords, slotWords, slotNumbers, each, wordsOf, Row}
-use Rattle.row.proofs.Parts.{by-parts, viewAt, row-stored, mode-word, mode-back, flag-le, set-read, sixteen-read, slot-read}
+use Rattle.row.specs.Row.{word, ownPlace, modePlace, netPlace, membersPlace, slotLength, slotPlace, startPlace}
+use Rattle.row.specs.Row.{numberPlace, viewPlace, startsPlace, acceptedPlace, usedPlace, storedLength}
+use Rattle.row.specs.Row.{numbersPlace, rowLength, setAt, modeOf, sixteenWords, slotOf, stateOf, flag, setWords}
+use Rattle.row.specs.Row.{slotWords, slotNumbers, each, wordsOf, Row}
+use Rattle.row.proofs.Parts.{by-parts, viewAt, row-stored, mode-word, mode-back, flag-le, set-read}
+use Rattle.row.proofs.Parts.{sixteen-read, slot-read}
+
+-- how many words of a row there are from a place on
+abbrev rest : ℕ → ℕ
+rest p = rowLength - p
 
 -- A row in parts: the n words of g from p on.
 abbrev run : (ℕ → ℕ) → ℕ → ℕ → List ℕ
@@ -29,7 +37,8 @@ join g p a q b e =
     ∙ sym (tab-add a b (λ k. g (p + k)))
 
 -- the parts of the entries of a table, side by side
-each-run : {A : Type 0} (f : A → List ℕ) (g : ℕ → ℕ) (m n at : ℕ) (h : ℕ → A) → ((o : ℕ) → o < n → f (h o) ≡ run g (at + m * o) m)
+each-run : {A : Type 0} (f : A → List ℕ) (g : ℕ → ℕ) (m n at : ℕ) (h : ℕ → A)
+    → ((o : ℕ) → o < n → f (h o) ≡ run g (at + m * o) m)
     → each f (tab n h) ≡ run g at (m * n)
 unfolding tab
 each-run f g m zero at h e = let x : m * 0 ≡ 0 = omega arith in rw x
@@ -38,7 +47,8 @@ each-run {A} f g m (suc n) at h e =
     let y : at + m * 0 ≡ at = omega arith in
     let first : f (h 0) ≡ run g at m = e 0 (omega arith) ∙ ap (λ (p : ℕ). run g p m) y in
     let rest : each f (tab n (λ o. h (suc o))) ≡ run g (at + m) (m * n) =
-    each-run f g m n (at + m) (λ o. h (suc o)) (λ o l. e (suc o) (omega arith) ∙ ap (λ (p : ℕ). run g p m) (omega arith)) in
+    each-run f g m n (at + m) (λ o. h (suc o))
+    (λ o l. e (suc o) (omega arith) ∙ ap (λ (p : ℕ). run g p m) (omega arith)) in
     ap (λ (l : List ℕ). l ++ each f (tab n (λ o. h (suc o)))) first ∙ ap (λ (l : List ℕ). run g at m ++ l) rest
     ∙ join g at m (at + m) (m * n) refl ∙ ap (λ (k : ℕ). run g at k) x
 
@@ -67,14 +77,14 @@ module _ (ws : List ℕ) (r : Row ws) (s : (k : ℕ) → getD ws k 0 < word) whe
       let b : (g at + word * g (at + 1)) / word ≡ g (at + 1) = omega arith in
       rw (a, b)
 
-  slot-words : (o : ℕ) → o < 16 → slotWords (slotOf ws o) ≡ run g (slotPlace o) 5
+  slot-words : (o : ℕ) → o < 16 → slotWords (slotOf ws o) ≡ run g (slotPlace o) slotLength
   unfolding slotOf tab
   slot-words o h =
       let a : slotPlace o + 0 ≡ slotPlace o = omega arith in
       let b : slotPlace o + 3 + 1 ≡ slotPlace o + 4 = omega arith in
       rw (flag-word (g (slotPlace o)) (r .flags o h), set-words (slotPlace o + 3), a, b)
 
-  slot-numbers : (o : ℕ) → slotNumbers (slotOf ws o) ≡ run g (numbersPlace o) 18
+  slot-numbers : (o : ℕ) → slotNumbers (slotOf ws o) ≡ run g (numbersPlace o) storedLength
   unfolding slotOf tab
   slot-numbers o =
       let a : numbersPlace o + 0 ≡ numbersPlace o = omega arith in
@@ -83,8 +93,8 @@ module _ (ws : List ℕ) (r : Row ws) (s : (k : ℕ) → getD ws k 0 < word) whe
       (λ k h. let x : numbersPlace o + 2 + k ≡ numbersPlace o + suc (suc k) = omega arith in ap g x)))
 
   -- from the end: the words from each part's place on
-  from-numbers : each slotNumbers (tab 16 (slotOf ws)) ≡ run g (numbersPlace 0) 288
-  from-numbers = each-run slotNumbers g 18 16 (numbersPlace 0) (slotOf ws) (λ o h. slot-numbers o)
+  from-numbers : each slotNumbers (tab 16 (slotOf ws)) ≡ run g (numbersPlace 0) (rest (numbersPlace 0))
+  from-numbers = each-run slotNumbers g storedLength 16 (numbersPlace 0) (slotOf ws) (λ o h. slot-numbers o)
 
   sixteen-on : (at n : ℕ) (l : List ℕ) → l ≡ run g (at + 16) n → sixteenWords ws at ++ l ≡ run g at (16 + n)
   sixteen-on at n l e = ap (λ (x : List ℕ). sixteenWords ws at ++ x) e ∙ join g at 16 (at + 16) n refl
@@ -92,29 +102,39 @@ module _ (ws : List ℕ) (r : Row ws) (s : (k : ℕ) → getD ws k 0 < word) whe
   set-on : (at n : ℕ) (l : List ℕ) → l ≡ run g (at + 2) n → setWords (setAt ws at) ++ l ≡ run g at (2 + n)
   set-on at n l e =
       let x : at + 0 ≡ at = omega arith in
-      ap (λ (x : List ℕ). x ++ l) (set-words at) ∙ ap (λ (k : ℕ). g k ∷ g (at + 1) ∷ l) (sym x) ∙ two (λ k. g (at + k)) l
+      ap (λ (x : List ℕ). x ++ l) (set-words at) ∙ ap (λ (k : ℕ). g k ∷ g (at + 1) ∷ l) (sym x)
+      ∙ two (λ k. g (at + k)) l
       ∙ ap (λ (x : List ℕ). run g at 2 ++ x) e ∙ join g at 2 (at + 2) n refl
 
-  slots-on : (l : List ℕ) → l ≡ run g startPlace 339 → each slotWords (tab 16 (slotOf ws)) ++ l ≡ run g (slotPlace 0) 419
+  slots-on : (l : List ℕ) → l ≡ run g startPlace (rest startPlace)
+      → each slotWords (tab 16 (slotOf ws)) ++ l ≡ run g (slotPlace 0) (rest (slotPlace 0))
   slots-on l e =
-      ap (λ (x : List ℕ). x ++ l) (each-run slotWords g 5 16 (slotPlace 0) (slotOf ws) slot-words) ∙ ap (λ (x : List ℕ). run g (slotPlace 0) 80 ++ x) e ∙ join g (slotPlace 0) 80 startPlace 339 refl
+      ap (λ (x : List ℕ). x ++ l) (each-run slotWords g slotLength 16 (slotPlace 0) (slotOf ws) slot-words)
+      ∙ ap (λ (x : List ℕ). run g (slotPlace 0) (slotLength * 16) ++ x) e
+      ∙ join g (slotPlace 0) (slotLength * 16) startPlace (rest startPlace) refl
 
-  three-on : (l : List ℕ) → l ≡ run g startsPlace 336 → g startPlace ∷ g numberPlace ∷ g viewPlace ∷ l ≡ run g startPlace 339
-  three-on l e = three (λ k. g (startPlace + k)) l ∙ ap (λ (x : List ℕ). run g startPlace 3 ++ x) e ∙ join g startPlace 3 startsPlace 336 refl
+  three-on : (l : List ℕ) → l ≡ run g startsPlace (rest startsPlace) → g startPlace ∷ g numberPlace ∷ g viewPlace
+      ∷ l ≡ run g startPlace (rest startPlace)
+  three-on l e = three (λ k. g (startPlace + k)) l ∙ ap (λ (x : List ℕ). run g startPlace 3 ++ x) e
+      ∙ join g startPlace 3 startsPlace (rest startsPlace) refl
 
-  head-on : (l : List ℕ) → l ≡ run g netPlace 423 → g ownPlace ∷ kindOf (modeOf (g modePlace)) ∷ l ≡ run g ownPlace rowLength
+  head-on : (l : List ℕ) → l ≡ run g netPlace (rest netPlace) → g ownPlace ∷ kindOf (modeOf (g modePlace))
+      ∷ l ≡ run g ownPlace rowLength
   head-on l e =
       ap (λ (m : ℕ). g ownPlace ∷ m ∷ l) (mode-word (g modePlace) (r .mode)) ∙ two (λ k. g (ownPlace + k)) l
-      ∙ ap (λ (x : List ℕ). run g ownPlace 2 ++ x) e ∙ join g ownPlace 2 netPlace 423 refl
+      ∙ ap (λ (x : List ℕ). run g ownPlace 2 ++ x) e ∙ join g ownPlace 2 netPlace (rest netPlace) refl
 
   whole : run g ownPlace rowLength ≡ ws
-  whole = tab-ext rowLength (λ k. g (ownPlace + k)) g (λ k h. let x : ownPlace + k ≡ k = omega arith in ap g x) ∙ sym (tab-self rowLength 0 ws (r .long))
+  whole = tab-ext rowLength (λ k. g (ownPlace + k)) g (λ k h. let x : ownPlace + k ≡ k = omega arith in ap g x)
+      ∙ sym (tab-self rowLength 0 ws (r .long))
 
   pub words-state : wordsOf (stateOf ws) ≡ ws
   unfolding wordsOf stateOf
   words-state =
-      let a = sixteen-on startsPlace 320 _ (sixteen-on acceptedPlace 304 _ (sixteen-on usedPlace 288 _ from-numbers)) in
-      head-on _ (set-on netPlace 421 _ (set-on membersPlace 419 _ (slots-on _ (three-on _ a)))) ∙ whole
+      let u = sixteen-on usedPlace (rest (numbersPlace 0)) _ from-numbers in
+      let a = sixteen-on startsPlace (rest acceptedPlace) _ (sixteen-on acceptedPlace (rest usedPlace) _ u) in
+      head-on _ (set-on netPlace (rest membersPlace) _
+      (set-on membersPlace (rest (slotPlace 0)) _ (slots-on _ (three-on _ a)))) ∙ whole
 
 pub row-words : (ws : List ℕ) (t : State) → Row ws → ((k : ℕ) → getD ws k 0 < word) → stateOf ws ≡ t → ws ≡ wordsOf t
 row-words ws t r s e = sym (words-state ws r s) ∙ ap wordsOf e
@@ -129,7 +149,8 @@ module _ {A : Type 0} (f : A → List ℕ) (m : ℕ) (d : A) where
       let c = each-long l (λ i. h (suc i)) in
       omega arith
 
-  each-place : (l : List A) (o j : ℕ) → ((i : ℕ) → length (f (getD l i d)) ≡ m) → o < length l → j < m → getD (each f l) (m * o + j) 0 ≡ getD (f (getD l o d)) j 0
+  each-place : (l : List A) (o j : ℕ) → ((i : ℕ) → length (f (getD l i d)) ≡ m) → o < length l → j < m
+      → getD (each f l) (m * o + j) 0 ≡ getD (f (getD l o d)) j 0
   each-place [] o j h lt k = absurd (omega arith)
   each-place (x ∷ l) zero j h lt k =
       let n = h 0 in
@@ -158,11 +179,14 @@ module _ (s : State) (h : Shaped s) where
   abbrev fromStart : List ℕ
   fromStart = s .start ∷ s .number ∷ s .view .number ∷ fromStarts
 
-  slots-long : length (each slotWords (s .stored)) ≡ 80
-  slots-long = let z = h .stored in let e = each-long slotWords 5 nothing (s .stored) (λ i. refl) in omega arith
+  slots-long : length (each slotWords (s .stored)) ≡ slotLength * 16
+  slots-long = let z = h .stored in let e = each-long slotWords slotLength nothing (s .stored) (λ i. refl) in
+      omega arith
 
-  numbers-long : length (each slotNumbers (s .stored)) ≡ 288
-  numbers-long = let z = h .stored in let e = each-long slotNumbers 18 nothing (s .stored) (λ i. let n = h .slots i in omega arith) in omega arith
+  numbers-long : length (each slotNumbers (s .stored)) ≡ storedLength * 16
+  numbers-long = let z = h .stored in
+      let e = each-long slotNumbers storedLength nothing (s .stored) (λ i. let n = h .slots i in omega arith) in
+      omega arith
 
   at-slots : (k : ℕ) → getD (wordsOf s) (slotPlace 0 + k) 0 ≡ getD (each slotWords (s .stored) ++ fromStart) k 0
   unfolding wordsOf
@@ -172,10 +196,12 @@ module _ (s : State) (h : Shaped s) where
   at-start k =
       let z = slots-long in
       let e : startPlace + k ≡ slotPlace 0 + (length (each slotWords (s .stored)) + k) = omega arith in
-      rw e (at-slots (length (each slotWords (s .stored)) + k) ∙ getD-append-add (each slotWords (s .stored)) fromStart k 0)
+      rw e (at-slots (length (each slotWords (s .stored)) + k)
+      ∙ getD-append-add (each slotWords (s .stored)) fromStart k 0)
 
   at-starts : (k : ℕ) → getD (wordsOf s) (startsPlace + k) 0 ≡ getD fromStarts k 0
-  at-starts k = let e : startsPlace + k ≡ startPlace + suc (suc (suc k)) = omega arith in rw e (at-start (suc (suc (suc k))))
+  at-starts k = let e : startsPlace + k ≡ startPlace + suc (suc (suc k)) = omega arith in
+      rw e (at-start (suc (suc (suc k))))
 
   at-accepted : (k : ℕ) → getD (wordsOf s) (acceptedPlace + k) 0 ≡ getD fromAccepted k 0
   at-accepted k =
@@ -195,20 +221,24 @@ module _ (s : State) (h : Shaped s) where
       let e : numbersPlace 0 + k ≡ usedPlace + (length (s .used) + k) = omega arith in
       rw e (at-used (length (s .used) + k) ∙ getD-append-add (s .used) (each slotNumbers (s .stored)) k 0)
 
-  slot-word : (o : ℕ) → o < 16 → (p j : ℕ) → p ≡ slotPlace o + j → j < 5 → getD (wordsOf s) p 0 ≡ getD (slotWords (storedAt s o)) j 0
+  slot-word : (o : ℕ) → o < 16 → (p j : ℕ) → p ≡ slotPlace o + j → j < slotLength
+      → getD (wordsOf s) p 0 ≡ getD (slotWords (storedAt s o)) j 0
   slot-word o l p j q m =
       let z = h .stored in
       let y = slots-long in
-      let e : p ≡ slotPlace 0 + (5 * o + j) = omega arith in
-      rw e (at-slots (5 * o + j) ∙ List·getD-append (each slotWords (s .stored)) fromStart 0 (5 * o + j) (omega arith)
-      ∙ each-place slotWords 5 nothing (s .stored) o j (λ i. refl) (omega arith) m)
+      let e : p ≡ slotPlace 0 + (slotLength * o + j) = omega arith in
+      rw e (at-slots (slotLength * o + j) ∙ List·getD-append (each slotWords (s .stored)) fromStart 0
+      (slotLength * o + j) (omega arith)
+      ∙ each-place slotWords slotLength nothing (s .stored) o j (λ i. refl) (omega arith) m)
 
-  slot-number : (o : ℕ) → o < 16 → (p j : ℕ) → p ≡ numbersPlace o + j → j < 18 → getD (wordsOf s) p 0 ≡ getD (slotNumbers (storedAt s o)) j 0
+  slot-number : (o : ℕ) → o < 16 → (p j : ℕ) → p ≡ numbersPlace o + j → j < storedLength
+      → getD (wordsOf s) p 0 ≡ getD (slotNumbers (storedAt s o)) j 0
   slot-number o l p j q m =
       let z = h .stored in
-      let e : p ≡ numbersPlace 0 + (18 * o + j) = omega arith in
-      rw e (at-numbers (18 * o + j)
-      ∙ each-place slotNumbers 18 nothing (s .stored) o j (λ i. let n = h .slots i in omega arith) (omega arith) m)
+      let e : p ≡ numbersPlace 0 + (storedLength * o + j) = omega arith in
+      rw e (at-numbers (storedLength * o + j)
+      ∙ each-place slotNumbers storedLength nothing (s .stored) o j (λ i. let n = h .slots i in omega arith)
+      (omega arith) m)
 
   words-long : length (wordsOf s) ≡ rowLength
   unfolding wordsOf
@@ -245,7 +275,8 @@ module _ (s : State) (h : Shaped s) where
       rw (
         members-back,
         at-start 2,
-        sixteen-read (wordsOf s) startsPlace (s .view .starts) z (λ j l. at-starts j ∙ List·getD-append (s .view .starts) fromAccepted 0 j (omega arith)),
+        sixteen-read (wordsOf s) startsPlace (s .view .starts) z
+            (λ j l. at-starts j ∙ List·getD-append (s .view .starts) fromAccepted 0 j (omega arith)),
       )
 
   pub state-words : stateOf (wordsOf s) ≡ s
@@ -259,11 +290,13 @@ module _ (s : State) (h : Shaped s) where
         net = set-read (wordsOf s) netPlace (s .net) refl refl;
         stored = sym (filled 16 (slotOf (wordsOf s)) nothing (s .stored) (h .stored)
             (λ o l. sym (slot-read (wordsOf s) o (storedAt s o) (h .slots o) (slot-word o l) (slot-number o l))));
-        accepted = sixteen-read (wordsOf s) acceptedPlace (s .accepted) x (λ j l. at-accepted j ∙ List·getD-append (s .accepted) fromUsed 0 j (omega arith));
+        accepted = sixteen-read (wordsOf s) acceptedPlace (s .accepted) x
+            (λ j l. at-accepted j ∙ List·getD-append (s .accepted) fromUsed 0 j (omega arith));
         view = view-back;
         start = at-start 0;
         number = at-start 1;
-        used = sixteen-read (wordsOf s) usedPlace (s .used) y (λ j l. at-used j ∙ List·getD-append (s .used) (each slotNumbers (s .stored)) 0 j (omega arith));
+        used = sixteen-read (wordsOf s) usedPlace (s .used) y
+            (λ j l. at-used j ∙ List·getD-append (s .used) (each slotNumbers (s .stored)) 0 j (omega arith));
       })
 
 -- what is read off words is shaped, whatever they are
@@ -286,12 +319,20 @@ state-shaped ws = record {
   where
     slot : (o : ℕ) → Dec (o < 16) → length (storedAt (stateOf ws) o .proposal .used) ≡ 16
     slot o (yes l) = rw (row-stored ws o l) (slot-long ws o)
-    slot o (no l) = let z = length-tab 16 (slotOf ws) in rw (List·getD-eq-default (tab 16 (slotOf ws)) nothing {n = o} (omega arith)) nothing-long
+    slot o (no l) = let z = length-tab 16 (slotOf ws) in
+        rw (List·getD-eq-default (tab 16 (slotOf ws)) nothing {n = o} (omega arith)) nothing-long
 
 pub fresh-shaped : (o : ℕ) → Shaped (fresh o)
 unfolding fresh tab
-fresh-shaped o = record { stored = refl; accepted = refl; used = refl; starts = refl; slots = λ k. slot k (decLt k 16) }
+fresh-shaped o = record {
+  stored = refl;
+  accepted = refl;
+  used = refl;
+  starts = refl;
+  slots = λ k. slot k (decLt k 16);
+}
   where
     slot : (k : ℕ) → Dec (k < 16) → length (storedAt (fresh o) k .proposal .used) ≡ 16
     slot k (yes l) = rw (getD-tab 16 (λ i. nothing) k nothing l) nothing-long
-    slot k (no l) = let z = length-tab {A = Slot} 16 (λ i. nothing) in rw (List·getD-eq-default (tab 16 (λ i. nothing)) nothing {n = k} (omega arith)) nothing-long
+    slot k (no l) = let z = length-tab {A = Slot} 16 (λ i. nothing) in
+        rw (List·getD-eq-default (tab 16 (λ i. nothing)) nothing {n = k} (omega arith)) nothing-long

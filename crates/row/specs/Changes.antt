@@ -1,12 +1,8 @@
--- Changes of a state, one part each, and what a call that changes a row leaves.
+-- What a call that changes a row leaves.
 use mathlib.Core.Path.{_≡_}
 use mathlib.Core.List.{List}
 use Prim.Native.Nat.{ℕ}
-use Rattle.laws.specs.Tab.{tab}
-use Rattle.laws.specs.Upd.{upd}
-use Rattle.seats.specs.declared.SeatSet.{SeatSet}
-use Rattle.records.specs.declared.View.{View}
-use Rattle.rules.specs.State.{Mode, Slot, State, storedAt, acceptedAt, usedAt}
+use Rattle.rules.specs.State.{State}
 use Rattle.row.specs.Row.{stateOf, Row}
 
 -- what a call that changes a row leaves: the state changed by f, in a row

@@ -1,12 +1,13 @@
 -- A state as a row of 425 words of 32 bits, and back. A set of seats is two words, the low one first.
 --   0 own office, 1 mode (0 none, 1 fast, 2 slow), 2-3 net view, 4-5 members of the current view,
 --   6 + 5o for office o: present (0 or 1), sender, kind, members (2 words) of its stored proposal;
---   then all numbers: 86 start number, 87 proposal number, 88 view number, 89-104 the view's start numbers, 105-120 last accepted,
---   121-136 used numbers, 137 + 18o for office o: start number, proposal number, sixteen used numbers of its stored proposal.
+--   then all numbers: 86 start number, 87 proposal number, 88 view number, 89-104 the view's start numbers,
+--   105-120 last accepted, 121-136 used numbers,
+--   137 + 18o for office o: start number, proposal number, sixteen used numbers of its stored proposal.
 use mathlib.Core.Path.{_≡_}
 use mathlib.Core.Bool.{Bool, not, _&&_}
 use mathlib.Core.List.{List, [], _∷_, _++_}
-use Prim.Native.Nat.{ℕ, zero, suc, _+_, _*_, _<_, _≤_, _/_, _%_}
+use Prim.Native.Nat.{ℕ, zero, suc, _+_, _-_, _*_, _<_, _≤_, _/_, _%_}
 use lib.ListN.{length, getD}
 use lib.Dec.{eqb, leb}
 use Rattle.laws.specs.Fin.{allb}
@@ -20,45 +21,63 @@ pub use Rattle.rules.specs.Bounds.{low}
 abbrev pub word : ℕ
 word = 4294967296
 
--- the places
-abbrev pub rowLength : ℕ
-rowLength = 425
+abbrev pub setLength : ℕ
+setLength = 2
 
+-- the places, each behind the one before
 abbrev pub ownPlace : ℕ
 ownPlace = 0
 
 abbrev pub modePlace : ℕ
-modePlace = 1
+modePlace = ownPlace + 1
 
 abbrev pub netPlace : ℕ
-netPlace = 2
+netPlace = modePlace + 1
 
 abbrev pub membersPlace : ℕ
-membersPlace = 4
+membersPlace = netPlace + setLength
+
+-- of a stored proposal: present, sender, kind, members
+abbrev pub slotLength : ℕ
+slotLength = 3 + setLength
 
 abbrev pub slotPlace : ℕ → ℕ
-slotPlace o = 6 + 5 * o
+slotPlace o = membersPlace + setLength + slotLength * o
 
 abbrev pub startPlace : ℕ
-startPlace = 86
+startPlace = slotPlace 16
 
 abbrev pub numberPlace : ℕ
-numberPlace = 87
+numberPlace = startPlace + 1
 
 abbrev pub viewPlace : ℕ
-viewPlace = 88
+viewPlace = numberPlace + 1
 
 abbrev pub startsPlace : ℕ
-startsPlace = 89
+startsPlace = viewPlace + 1
 
 abbrev pub acceptedPlace : ℕ
-acceptedPlace = 105
+acceptedPlace = startsPlace + 16
 
 abbrev pub usedPlace : ℕ
-usedPlace = 121
+usedPlace = acceptedPlace + 16
+
+-- of a stored proposal: start number, proposal number, sixteen used numbers
+abbrev pub storedLength : ℕ
+storedLength = 2 + 16
 
 abbrev pub numbersPlace : ℕ → ℕ
-numbersPlace o = 137 + 18 * o
+numbersPlace o = usedPlace + 16 + storedLength * o
+
+abbrev pub rowLength : ℕ
+rowLength = numbersPlace 16
+
+-- the numbers stand side by side: how many, and how many before those of what is stored
+abbrev pub numbersCount : ℕ
+numbersCount = rowLength - startPlace
+
+abbrev pub ownNumbers : ℕ
+ownNumbers = numbersPlace 0 - startPlace
 
 -- reading
 unfoldable pub setAt : List ℕ → ℕ → SeatSet
@@ -95,7 +114,11 @@ stateOf ws =
       net = setAt ws netPlace;
       stored = tab 16 (slotOf ws);
       accepted = sixteenWords ws acceptedPlace;
-      view = record { number = getD ws viewPlace 0; members = setAt ws membersPlace; starts = sixteenWords ws startsPlace };
+      view = record {
+        number = getD ws viewPlace 0;
+        members = setAt ws membersPlace;
+        starts = sixteenWords ws startsPlace;
+      };
       start = getD ws startPlace 0;
       number = getD ws numberPlace 0;
       used = sixteenWords ws usedPlace;
@@ -122,7 +145,8 @@ module _ {A : Type 0} where
 unfoldable pub wordsOf : State → List ℕ
 wordsOf s =
     s .own ∷ kindOf (s .mode) ∷ (setWords (s .net) ++ (setWords (s .view .members) ++ (each slotWords (s .stored)
-    ++ (s .start ∷ s .number ∷ s .view .number ∷ (s .view .starts ++ (s .accepted ++ (s .used ++ each slotNumbers (s .stored))))))))
+    ++ (s .start ∷ s .number ∷ s .view .number
+    ∷ (s .view .starts ++ (s .accepted ++ (s .used ++ each slotNumbers (s .stored))))))))
 
 -- a row: its length, presence words of 0 or 1, a mode word of 0 to 2
 pub record Row (ws : List ℕ) : Type 0 where
@@ -130,16 +154,15 @@ pub record Row (ws : List ℕ) : Type 0 where
   pub flags : (o : ℕ) → o < 16 → getD ws (slotPlace o) 0 ≤ 1
   pub mode : getD ws modePlace 0 ≤ 2
 
+abbrev pub areFlags : List ℕ → Bool
+areFlags ws = allb 16 (λ o. leb (getD ws (slotPlace o) 0) 1)
+
 unfoldable pub isRow : List ℕ → Bool
-isRow ws = eqb (length ws) rowLength && leb (getD ws modePlace 0) 2 && allb 16 (λ o. leb (getD ws (slotPlace o) 0) 1)
+isRow ws = eqb (length ws) rowLength && leb (getD ws modePlace 0) 2 && areFlags ws
 
 -- a row whose state passes check 2
 unfoldable pub soundRow : List ℕ → Bool
 soundRow ws = isRow ws && wellFormed (stateOf ws)
-
--- the numbers stand side by side
-abbrev pub numbersCount : ℕ
-numbersCount = 339
 
 -- a row whose numbers are all so low that no event makes one above L
 unfoldable pub lowRow : List ℕ → Bool

@@ -1,4 +1,4 @@
-// Changes of what a row holds, in place, but for the stored proposals; inner to the layer of the step.
+// Changes of what a row holds, in place, but for the stored proposals.
 use crate::layout;
 use crate::stores::put_run;
 use crate::stores::put_set;

@@ -1,4 +1,5 @@
-// Check 2 of the state that words hold, and whether all its numbers are low; inner to the layer of the step.
+// Check 2 of the state that words hold, and whether its numbers are low: all of them, or those that an event builds
+// on.
 use crate::LOW;
 use crate::form;
 use crate::layout;
@@ -41,7 +42,8 @@ pub fn is_low(s: &[u32]) -> bool
     false
 }
 
-// Whether the numbers that an event builds on are all low: start number, proposal number, view number, and of what is stored start and proposal number.
+// Whether the numbers that an event builds on are all low: start number, proposal number, view number, and of what is
+// stored start and proposal number.
 pub fn is_capped(s: &[u32]) -> bool
     requires { ⌜ Row (now s) ⌝ }
     ensures { λ r. ⌜ (r ≡ true → Capped low low (stateOf (now (s .entry)))) ⌝ }
@@ -55,7 +57,9 @@ pub fn is_capped(s: &[u32]) -> bool
 // The digits of the start and proposal numbers of all slots together.
 fn stored_digits(s: &[u32]) -> u32
     requires { ⌜ Row (now s) ⌝ }
-    ensures { λ r. ⌜ leb r low ≡ allb 16 (λ o. leb (getD (now (s .entry)) (numbersPlace o + 1) 0) low && leb (getD (now (s .entry)) (numbersPlace o) 0) low) ⌝ }
+    ensures { λ r. ⌜ leb r low ≡ allb 16
+        (λ o. leb (getD (now (s .entry)) (numbersPlace o + 1) 0) low
+        && leb (getD (now (s .entry)) (numbersPlace o) 0) low) ⌝ }
 {
     let mut all = 0u32;
     let mut o: usize = 0;

@@ -1,42 +1,49 @@
-// The places of a row, each once. A set of seats is two words, the low one first.
+// The places of a row, each once and each behind the one before; what the crate shares of them is WORDS.
+
+// A set of seats is two words, the low one first; a word counts to WORD.
+pub const SET: usize = 2;
+
+pub const WORD: u64 = 4294967296;
 
 pub const OWN: usize = 0;
 
-pub const MODE: usize = 1;
+pub const MODE: usize = OWN + 1;
 
-pub const NET: usize = 2;
+pub const NET: usize = MODE + 1;
 
-pub const MEMBERS: usize = 4;
+pub const MEMBERS: usize = NET + SET;
 
 // What is stored for an office: present, sender, kind, members.
-pub const SLOTS: usize = 6;
-
-pub const SLOT: usize = 5;
+pub const SLOTS: usize = MEMBERS + SET;
 
 pub const KIND: usize = 2;
 
-pub const SLOT_MEMBERS: usize = 3;
+pub const SLOT_MEMBERS: usize = KIND + 1;
 
-// All numbers, side by side.
-pub const NUMBERS: usize = 339;
+pub const SLOT: usize = SLOT_MEMBERS + SET;
 
-pub const START: usize = 86;
+// From here on all numbers, side by side.
+pub const START: usize = SLOTS + SLOT * 16;
 
-pub const NUMBER: usize = 87;
+pub const NUMBER: usize = START + 1;
 
-pub const VIEW: usize = 88;
+pub const VIEW: usize = NUMBER + 1;
 
-pub const STARTS: usize = 89;
+pub const STARTS: usize = VIEW + 1;
 
-pub const ACCEPTED: usize = 105;
+pub const ACCEPTED: usize = STARTS + 16;
 
-pub const USED: usize = 121;
+pub const USED: usize = ACCEPTED + 16;
 
 // The numbers of what is stored for an office: start, number, used numbers.
-pub const STORED_NUMBERS: usize = 137;
-
-pub const STORED: usize = 18;
+pub const STORED_NUMBERS: usize = USED + 16;
 
 pub const STORED_NUMBER: usize = 1;
 
-pub const STORED_USED: usize = 2;
+pub const STORED_USED: usize = STORED_NUMBER + 1;
+
+pub const STORED: usize = STORED_USED + 16;
+
+pub const WORDS: usize = STORED_NUMBERS + STORED * 16;
+
+pub const NUMBERS: usize = WORDS - START;

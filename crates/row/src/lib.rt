@@ -1,12 +1,29 @@
-// The state of an office in a row of words that the caller lends. Contracts speak of the record State; no function outside this crate names a place of the row.
-pub mod changes;
-pub mod checks;
-mod form;
+// The state of an office in a row of words that the caller lends. Contracts speak of the record State; no function
+// outside this crate names a place of the row. The program asks view_number and checks::is_capped of the row that it
+// holds; all else is inner to the layer of the step.
+
+// The places.
 mod layout;
+
+// Whether words are a row.
+mod form;
+
+// What a row holds.
 mod readers;
-pub mod slots;
+
+// Check 2, and whether the numbers are low.
+pub mod checks;
+
+// Words stored from a place on.
 mod stores;
 
+// Changes of what a row holds.
+pub mod changes;
+
+// Changes of the stored proposals.
+pub mod slots;
+
+pub use layout::WORDS;
 pub use readers::accepted;
 pub use readers::mode;
 pub use readers::net;
@@ -21,8 +38,6 @@ pub use readers::stored_start;
 pub use readers::stored_used;
 pub use readers::used;
 pub use readers::view_number;
-
-pub const WORDS: usize = 425;
 
 // Numbers up to this make none above L in one event.
 pub const LOW: u32 = 1_073_741_823;

@@ -5,7 +5,7 @@ ghost use mathlib.Core.Path.{_≡_};
 ghost use Prim.Native.Nat.{_+_, _*_, _<_, _≤_};
 ghost use lib.ListN.{length};
 ghost use Rattle.rules.specs.State.{kindOf, storedAt, acceptedAt, usedAt, usedFor};
-ghost use Rattle.row.specs.Row.{word, Row, stateOf, setAt};
+ghost use Rattle.row.specs.Row.{word, setLength, Row, stateOf, setAt};
 
 pub fn own(s: &[u32]) -> u8
     requires { ⌜ Row (now s) × (stateOf (now s) .own < 16) ⌝ }
@@ -108,7 +108,7 @@ pub fn stored_used(s: &[u32], o: usize, k: usize) -> u32
 }
 
 fn set_at(s: &[u32], at: usize) -> SeatSet
-    requires { ⌜ at + 2 ≤ length (now s) ⌝ }
+    requires { ⌜ at + setLength ≤ length (now s) ⌝ }
     ensures { λ r. ⌜ r ≡ setAt (now (s .entry)) at ⌝ }
 {
     SeatSet {
@@ -119,5 +119,5 @@ fn set_at(s: &[u32], at: usize) -> SeatSet
 fn joined(low: u32, high: u32) -> u64
     ensures { λ r. ⌜ r ≡ low + word * high ⌝ }
 {
-    low as u64 + 4294967296 * (high as u64)
+    low as u64 + layout::WORD * (high as u64)
 }

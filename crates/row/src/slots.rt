@@ -1,4 +1,4 @@
-// Changes of the stored proposals of a row, in place; inner to the layer of the step.
+// Changes of the stored proposals of a row, in place.
 use crate::layout;
 use crate::stores::put_numbers;
 use crate::stores::put_run;
@@ -40,16 +40,17 @@ const NO_PROPOSAL: Proposal = Proposal {
 // The words of an office's slot and its numbers.
 fn put_slot(s: &mut [u32], o: usize, present: u32, p: Proposal)
     requires { ⌜ Row (now s) × (o < 16) ⌝ }
-    ensures { λ _. ⌜ now (s .exit) ≡ sets (sets (now (s .entry)) (slotPlace o) (present ∷ p .sender ∷ p .kind ∷ setWords (p .members)))
+    ensures { λ _. ⌜ now (s .exit) ≡ sets
+        (sets (now (s .entry)) (slotPlace o) (present ∷ p .sender ∷ p .kind ∷ setWords (p .members)))
         (numbersPlace o) (p .start ∷ p .number ∷ p .used) ⌝ }
 {
     let members = p.members;
-    let head: [u32; 5] = [
+    let head: [u32; layout::SLOT] = [
         present,
         p.sender as u32,
         p.kind as u32,
-        (members.bits % 4294967296) as u32,
-        (members.bits / 4294967296) as u32,
+        (members.bits % layout::WORD) as u32,
+        (members.bits / layout::WORD) as u32,
     ];
     let used = p.used;
     put_run(s, layout::SLOTS + layout::SLOT * o, &head);

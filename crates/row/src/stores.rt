@@ -1,5 +1,5 @@
-// Words stored in a row from a place on; inner to the layer of the step. The laws say what such stores change in the state that it holds.
-use crate::WORDS;
+// Words stored in a row from a place on. The laws say what such stores change in the state that it holds.
+use crate::layout;
 use seats::SeatSet;
 ghost use mathlib.Core.Path.{_≡_};
 ghost use mathlib.Core.List.{_∷_};
@@ -7,24 +7,24 @@ ghost use Prim.Native.Nat.{_+_, _≤_};
 ghost use lib.ListN.{length};
 ghost use lib.Seq.{sets};
 ghost use Rattle.laws.specs.Tab.{tab};
-ghost use Rattle.row.specs.Row.{rowLength, setWords};
+ghost use Rattle.row.specs.Row.{setLength, storedLength, rowLength, setWords};
 
 // A start number, a proposal number and sixteen used numbers, from a place on.
 pub fn put_numbers(s: &mut [u32], at: usize, start: u32, number: u32, used: [u32; 16])
-    requires { ⌜ at + 18 ≤ length (now s) ⌝ }
+    requires { ⌜ at + storedLength ≤ length (now s) ⌝ }
     ensures { λ _. ⌜ now (s .exit) ≡ sets (now (s .entry)) at (start ∷ number ∷ used) ⌝ }
 {
     s[at] = start;
-    s[at + 1] = number;
-    put_run(s, at + 2, &used);
+    s[at + layout::STORED_NUMBER] = number;
+    put_run(s, at + layout::STORED_USED, &used);
 }
 
 pub fn put_set(s: &mut [u32], at: usize, x: SeatSet)
-    requires { ⌜ at + 2 ≤ length (now s) ⌝ }
+    requires { ⌜ at + setLength ≤ length (now s) ⌝ }
     ensures { λ _. ⌜ now (s .exit) ≡ sets (now (s .entry)) at (setWords x) ⌝ }
 {
-    s[at] = (x.bits % 4294967296) as u32;
-    s[at + 1] = (x.bits / 4294967296) as u32;
+    s[at] = (x.bits % layout::WORD) as u32;
+    s[at + 1] = (x.bits / layout::WORD) as u32;
 }
 
 // The words of w, from a place on.
@@ -45,7 +45,7 @@ pub fn put_zeros(s: &mut [u32])
     ensures { λ _. ⌜ now (s .exit) ≡ tab rowLength (λ k. 0) ⌝ }
 {
     let mut k: usize = 0;
-    while k < WORDS {
+    while k < layout::WORDS {
         s[k] = 0;
         k += 1;
     }

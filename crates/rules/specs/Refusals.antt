@@ -1,7 +1,7 @@
 -- The reasons to refuse, in checking order, and the step: what comes of any bytes on any state.
 use mathlib.Core.Bool.{Bool, _&&_, _||_, not}
 use mathlib.Core.List.{List, [], _∷_, _++_}
-use Prim.Native.Nat.{ℕ}
+use Prim.Native.Nat.{ℕ, _+_, _*_}
 use lib.ListN.{getD, length}
 use lib.Dec.{eqb, ltb, leb}
 use Rattle.laws.specs.Checks.{Check, numbered, firstOf}
@@ -9,7 +9,8 @@ use Rattle.laws.specs.Fin.{allb}
 use Rattle.laws.specs.Upd.{ifb}
 use Rattle.seats.specs.Offices.{serves}
 use Rattle.records.specs.Numbers.{limit, within, aboveLimit, strayNumber}
-use Rattle.records.specs.Layout.{reportMark, valueOf, checkOf, markOf, decodeReport, decodeProposal, encodeProposal, encodeNotice, encodeView}
+use Rattle.records.specs.Layout.{reportMark, noticeLength, proposalLength, valueOf, checkOf, markOf}
+use Rattle.records.specs.Layout.{decodeReport, decodeProposal, encodeProposal, encodeNotice, encodeView}
 use Rattle.records.specs.declared.Report.{Report}
 use Rattle.records.specs.declared.Proposal.{Proposal}
 use Rattle.rules.specs.State.{Slot, State, fast, slow, storedAt, acceptedAt, usedAt, usedFor}
@@ -36,9 +37,9 @@ pub record Made : Type 0 where
 unfoldable pub madeOf : ℕ → Made
 madeOf o = ifb (leb o 15) (record { refusal = 0; state = fresh o }) (record { refusal = 1; state = fresh 0 })
 
--- the length of an output that every event has room in
+-- the length of an output that every event has room in, 182: a start notice and two proposals
 abbrev pub fullRoom : ℕ
-fullRoom = 182
+fullRoom = noticeLength + 2 * proposalLength
 
 -- 2 to 5, before the record is read
 unfoldable pub unreadable : State → List ℕ → ℕ → ℕ

@@ -1,4 +1,4 @@
--- Making a state, at each exit, and what the words hold then.
+-- For making: the fresh state at each exit, and what the words hold then.
 use mathlib.Core.Path.{_≡_, ap, _∙_}
 use mathlib.Core.List.{List}
 use Prim.Native.Nat.{ℕ, _≤_, _<_}
@@ -40,16 +40,19 @@ module _ (office : ℕ) (ws : List ℕ) (n : ℕ) (e : n ≡ madeOf office .refu
     fresh-2 z = rw (ne-eqb (length ws) rowLength other, le-leb office 15 (most z))
 
   module _ (long : length ws ≡ rowLength) where
-    pub fresh-1 : (n ≡ 0 → ⊥) → (ws′ : List ℕ) → ws′ ≡ wordsOf (fresh 0) → record { refusal = 1; words = ws′ } ≡ freshRow office ws
+    pub fresh-1 : (n ≡ 0 → ⊥) → (ws′ : List ℕ) → ws′ ≡ wordsOf (fresh 0)
+        → record { refusal = 1; words = ws′ } ≡ freshRow office ws
     unfolding freshRow
     fresh-1 h ws′ d = rw (d, eq-eqb (length ws) rowLength long, made-1 office (above h))
 
-    pub fresh-0 : n ≡ 0 → (ws′ : List ℕ) → ws′ ≡ wordsOf (fresh office) → record { refusal = 0; words = ws′ } ≡ freshRow office ws
+    pub fresh-0 : n ≡ 0 → (ws′ : List ℕ) → ws′ ≡ wordsOf (fresh office)
+        → record { refusal = 0; words = ws′ } ≡ freshRow office ws
     unfolding freshRow
     fresh-0 z ws′ d = rw (d, eq-eqb (length ws) rowLength long, made-0 office (most z))
 
 -- in words of a row's length the refusal is that of making a state
-pub fresh-refusal : (office : ℕ) (ws : List ℕ) → length ws ≡ rowLength → freshRow office ws .refusal ≡ madeOf office .refusal
+pub fresh-refusal : (office : ℕ) (ws : List ℕ) → length ws ≡ rowLength
+    → freshRow office ws .refusal ≡ madeOf office .refusal
 unfolding freshRow
 fresh-refusal office ws l = rw (eq-eqb (length ws) rowLength l)
 
@@ -61,6 +64,8 @@ made-shaped office = go (decLt 15 office)
     go (no l) = rw (made-0 office (omega arith)) (fresh-shaped office)
 
 -- words of a row's length hold the state that was made
-pub fresh-holds : (office : ℕ) (ws : List ℕ) → length ws ≡ rowLength → Holds (freshRow office ws .words) (madeOf office .state)
+pub fresh-holds : (office : ℕ) (ws : List ℕ) → length ws ≡ rowLength
+    → Holds (freshRow office ws .words) (madeOf office .state)
 unfolding freshRow
-fresh-holds office ws e = rw (eq-eqb (length ws) rowLength e) (shaped-holds (madeOf office .state) (made-shaped office))
+fresh-holds office ws e =
+    rw (eq-eqb (length ws) rowLength e) (shaped-holds (madeOf office .state) (made-shaped office))

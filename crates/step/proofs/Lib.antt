@@ -1,8 +1,10 @@
-pub mod Holds
-mod Unready
-pub mod Readiness
+-- The laws, in the order of the modules that they serve: checks, making, refusals, dispatch, the step, the crates
+-- above.
+mod Readiness
 pub mod FreshRows
-pub mod Lowness
-pub mod Made
-pub mod Refusal
+mod Within
+mod Lowness
+mod Refusal
 pub mod Exits
+mod Unready
+pub mod Holds

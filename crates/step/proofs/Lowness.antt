@@ -1,4 +1,4 @@
--- Check 13 where every number is low: no event makes one above L.
+-- For refusals: check 13 where every number is low, since no event makes one above L.
 use mathlib.Core.Path.{_≡_}
 use mathlib.Core.Bool.{true}
 use Prim.Native.Nat.{_≤_}

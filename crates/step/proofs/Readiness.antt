@@ -1,4 +1,4 @@
--- Checks 2 and 3, by what they ask.
+-- For checks and the step: checks 2 and 3, by what they ask.
 use mathlib.Core.Path.{_≡_, refl, sym, _∙_}
 use mathlib.Core.Bool.{Bool, true, false}
 use mathlib.Core.List.{List}

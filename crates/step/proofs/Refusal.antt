@@ -1,4 +1,4 @@
--- The refusal of a record that was read, by the check that it comes from.
+-- For refusals: the refusal of a record that was read, by the check that it comes from.
 use mathlib.Core.Path.{_≡_, sym, ap, _∙_}
 use mathlib.Core.Bool.{true, false}
 use mathlib.Core.List.{List}
@@ -40,5 +40,6 @@ module _ (s : State) (e : Event) where
   step-refusal b room w fits is = go (ℕ-discrete (checkOf b) 0)
     where
       go : Dec (checkOf b ≡ 0) → stepOf s b room .refusal ≡ refusalFrom (checkOf b) s e
-      go (yes z) = ap (λ (r : Result). r .refusal) (exit-read s b room w fits z) ∙ ap (λ (x : Event). actOf s x .refusal) (is z) ∙ sym (from-read (checkOf b) z)
+      go (yes z) = ap (λ (r : Result). r .refusal) (exit-read s b room w fits z)
+          ∙ ap (λ (x : Event). actOf s x .refusal) (is z) ∙ sym (from-read (checkOf b) z)
       go (no h) = exit-unread s b room w fits h ∙ from-unread (checkOf b) h

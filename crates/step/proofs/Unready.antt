@@ -1,4 +1,4 @@
--- The step's result where checks 2 and 3 do not pass.
+-- For the step: its result where checks 2 and 3 do not pass.
 use mathlib.Core.Path.{_≡_, refl, _∙_}
 use mathlib.Core.Bool.{Bool, true, false}
 use mathlib.Core.List.{List}
@@ -19,8 +19,13 @@ module _ (ws b : List ℕ) (room : ℕ) where
   unfolding stepRow
   exit-unready n e h = rw e (go (isRow ws) (wellFormed (stateOf ws)) (decLt room fullRoom) refl refl)
     where
-      go : (r w : Bool) → Dec (room < fullRoom) → isRow ws ≡ r → wellFormed (stateOf ws) ≡ w → stepRow ws b room ≡ kept (unready ws room) ws
+      go : (r w : Bool) → Dec (room < fullRoom) → isRow ws ≡ r → wellFormed (stateOf ws) ≡ w
+          → stepRow ws b room ≡ kept (unready ws room) ws
       go false w l x y = rw (x, unready-2 ws room (not-sound ws x))
-      go true false l x y = rw (unready-2 ws room (sound-words ws x ∙ y)) (row-refused ws b room x 2 (omega arith) (exit-2 (stateOf ws) b room y))
-      go true true (yes l) x y = rw (unready-3 ws room (sound-words ws x ∙ y) l) (row-refused ws b room x 3 (omega arith) (exit-3 (stateOf ws) b room y l))
+      go true false l x y =
+          rw (unready-2 ws room (sound-words ws x ∙ y))
+          (row-refused ws b room x 2 (omega arith) (exit-2 (stateOf ws) b room y))
+      go true true (yes l) x y =
+          rw (unready-3 ws room (sound-words ws x ∙ y) l)
+          (row-refused ws b room x 3 (omega arith) (exit-3 (stateOf ws) b room y l))
       go true true (no l) x y = absurd (h (e ∙ unready-0 ws room (sound-words ws x ∙ y) (omega arith)))

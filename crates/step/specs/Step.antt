@@ -19,14 +19,19 @@ pub record RowResult : Type 0 where
 
 -- a refusal leaves the words as they were; acceptance leaves those of the state that the rules leave
 abbrev pub inRow : List ℕ → Result → RowResult
-inRow ws q = record { refusal = q .refusal; written = q .written; words = ifb (eqb (q .refusal) 0) (wordsOf (q .state)) ws }
+inRow ws q = record {
+  refusal = q .refusal;
+  written = q .written;
+  words = ifb (eqb (q .refusal) 0) (wordsOf (q .state)) ws;
+}
 
 -- words that are no row get 2, as a state that fails check 2 does
 unfoldable pub stepRow : List ℕ → List ℕ → ℕ → RowResult
-stepRow ws b room = ifb (isRow ws) (inRow ws (stepOf (stateOf ws) b room)) (record { refusal = 2; written = []; words = ws })
+stepRow ws b room = ifb (isRow ws) (inRow ws (stepOf (stateOf ws) b room))
+    (record { refusal = 2; written = []; words = ws })
 
--- the answer is the result's, the words are the result's, and the bytes of what was written stand at the front of the output, whose rest is
--- as it was
+-- the answer is the result's, the words are the result's, and the bytes of what was written stand at the front of the
+-- output, whose rest is as it was
 pub record Stepped (q : RowResult) (o : List ℕ) (refusal written : ℕ) (ws′ o′ : List ℕ) : Type 0 where
   pub same-refusal : refusal ≡ q .refusal
   pub same-written : written ≡ size (q .written)

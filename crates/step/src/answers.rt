@@ -1,4 +1,4 @@
-// What the step answers; inner to the layer of the step.
+// What the step answers: made here alone, read by every layer above.
 ghost use mathlib.Core.Path.{_≡_};
 
 // The refusal or 0, and the bytes written.

@@ -1,26 +1,27 @@
-// Checks 1 to 3 and 11 to 13, and the order of 6 to 12; inner to the layer of the step. The records answer 4 and 5.
-use crate::form;
+// Checks 1 to 3 and 11 to 13, and the order of 6 to 12. The records answer 4 and 5.
+use crate::form::form_refusal;
 use records::Proposal;
+use records::layout;
 use records::numbers::LIMIT;
 ghost use mathlib.Core.Path.{_≡_};
 ghost use Prim.Native.Nat.{_<_};
 ghost use Rattle.laws.specs.Checks.{firstOf};
-ghost use Rattle.rules.specs.Refusals.{proposalChecks, madeOf};
+ghost use Rattle.rules.specs.Refusals.{madeOf, notAbove, usedAhead, proposalChecks};
 ghost use Rattle.row.specs.Row.{Row, stateOf, lowRow};
 ghost use Rattle.step.specs.Checks.{unready, madeWithin};
 
-// The room that every event has enough of.
-pub const ROOM: usize = 182;
+// The room that every event has enough of: a start notice and two proposals.
+pub const ROOM: usize = layout::NOTICE_LENGTH + 2 * layout::PROPOSAL_LENGTH;
 
 // Check 1.
-pub fn office(office: u8) -> u8
+pub fn office_refusal(office: u8) -> u8
     ensures { λ r. ⌜ r ≡ madeOf office .refusal ⌝ }
 {
     if office <= 15 { 0 } else { 1 }
 }
 
 // Checks 2 and 3; a row whose numbers are all low was looked at already.
-pub fn ready(state: &[u32], low: bool, room: usize) -> u8
+pub fn unready(state: &[u32], low: bool, room: usize) -> u8
     requires { ⌜ low ≡ lowRow (now state) ⌝ }
     ensures { λ r. ⌜ r ≡ unready (now (state .entry)) room ⌝ }
 {
@@ -35,21 +36,37 @@ pub fn ready(state: &[u32], low: bool, room: usize) -> u8
     0
 }
 
+// Check 11.
+fn not_above(state: &[u32], p: Proposal) -> bool
+    requires { ⌜ Row (now state) × (p .sender < 16) ⌝ }
+    ensures { λ r. ⌜ r ≡ notAbove (stateOf (now (state .entry))) p ⌝ }
+{
+    p.number <= row::accepted(state, p.sender as usize)
+}
+
+// Check 12.
+fn used_ahead(state: &[u32], p: Proposal) -> bool
+    requires { ⌜ Row (now state) × (stateOf (now state) .own < 16) ⌝ }
+    ensures { λ r. ⌜ r ≡ usedAhead (stateOf (now (state .entry))) p ⌝ }
+{
+    let used = p.used;
+    let own = row::own(state) as usize;
+    row::number(state) < used[own]
+}
+
 // Checks 6 to 12: the first that applies, 0 where none does.
-pub fn proposal(state: &[u32], p: Proposal) -> u8
+pub fn proposal_refusal(state: &[u32], p: Proposal) -> u8
     requires { ⌜ Row (now state) × (stateOf (now state) .own < 16) ⌝ }
     ensures { λ r. ⌜ r ≡ firstOf (proposalChecks (stateOf (now (state .entry))) p) ⌝ }
 {
-    let own = row::own(state);
-    let refusal = form::form(own, p);
+    let refusal = form_refusal(row::own(state), p);
     if refusal != 0 {
         return refusal;
     }
-    if p.number <= row::accepted(state, p.sender as usize) {
+    if not_above(state, p) {
         return 11;
     }
-    let used = p.used;
-    if row::number(state) < used[own as usize] {
+    if used_ahead(state, p) {
         return 12;
     }
     0

@@ -1,4 +1,4 @@
-// Checks 6 to 10, which ask for the own office and the proposal and for no state; inner to the layer of the step.
+// Checks 6 to 10, which ask for the own office and the proposal and for no state. The records make check 10.
 use records::FAST;
 use records::Proposal;
 use records::SLOW;
@@ -8,7 +8,26 @@ use records::numbers::stray_number;
 use seats::offices::serves;
 ghost use mathlib.Core.Path.{_≡_};
 ghost use Rattle.laws.specs.Checks.{firstOf};
-ghost use Rattle.rules.specs.Refusals.{wrongNumber, formChecks};
+ghost use Rattle.rules.specs.Refusals.{wrongSender, wrongKind, wrongNumber, withoutSeat, formChecks};
+
+// Check 6.
+fn wrong_sender(own: u8, p: Proposal) -> bool
+    ensures { λ r. ⌜ r ≡ wrongSender own p ⌝ }
+{
+    (15 < p.sender) | (p.sender == own)
+}
+
+// Check 7.
+fn wrong_kind(p: Proposal) -> bool
+    ensures { λ r. ⌜ r ≡ wrongKind p ⌝ }
+{
+    let kind = p.kind;
+    match kind {
+        FAST => false,
+        SLOW => false,
+        _ => true,
+    }
+}
 
 // Check 8.
 fn wrong_number(p: Proposal) -> bool
@@ -18,20 +37,27 @@ fn wrong_number(p: Proposal) -> bool
     (p.start == 0) | (LIMIT < p.start) | (p.number == 0) | (LIMIT < p.number) | above_limit(used)
 }
 
+// Check 9.
+fn without_seat(own: u8, p: Proposal) -> bool
+    ensures { λ r. ⌜ r ≡ withoutSeat own p ⌝ }
+{
+    !serves(p.members, p.sender) | !serves(p.members, own)
+}
+
 // Checks 6 to 10: the first that applies, 0 where none does.
-pub fn form(own: u8, p: Proposal) -> u8
+pub fn form_refusal(own: u8, p: Proposal) -> u8
     ensures { λ r. ⌜ r ≡ firstOf (formChecks own p) ⌝ }
 {
-    if (15 < p.sender) | (p.sender == own) {
+    if wrong_sender(own, p) {
         return 6;
     }
-    if (p.kind != FAST) & (p.kind != SLOW) {
+    if wrong_kind(p) {
         return 7;
     }
     if wrong_number(p) {
         return 8;
     }
-    if !serves(p.members, p.sender) | !serves(p.members, own) {
+    if without_seat(own, p) {
         return 9;
     }
     let used = p.used;

@@ -1,15 +1,29 @@
-// The step: what comes of any bytes on any row of words, in place.
+// The step: what comes of any bytes on any row of words, in place. step, fresh and Answer are open;
+// dispatch::on_record is inner to the layers of the step and of the program, which knows of its row what checks 2 and
+// 3 ask.
 use answers::refuse;
+use checks::unready;
 use dispatch::on_record;
 ghost use lib.ListN.{length};
 ghost use Rattle.step.specs.Step.{Stepped, stepRow};
 
+// What the step answers.
 pub mod answers;
-mod checks;
-pub mod dispatch;
+
+// Checks 6 to 10.
 mod form;
+
+// Checks 1 to 3 and 11 to 13.
+mod checks;
+
+// The fresh state of an office.
 mod making;
+
+// The refusal of a record that was read, with check 13.
 mod refusals;
+
+// A record through the step.
+pub mod dispatch;
 
 pub use answers::Answer;
 pub use checks::ROOM;
@@ -18,13 +32,14 @@ pub use row::WORDS;
 
 // A refusal leaves every word and byte as it was; acceptance leaves the words of the state that the rules leave.
 pub fn step(state: &mut [u32], record: &[u8], out: &mut [u8]) -> Answer
-    ensures { λ r. ⌜ Stepped (stepRow (now (state .entry)) (now («record» .entry)) (length (now (out .entry)))) (now (out .entry))
+    ensures { λ r. ⌜ Stepped (stepRow (now (state .entry)) (now («record» .entry)) (length (now (out .entry))))
+        (now (out .entry))
         (r .refusal) (r .written) (now (state .exit)) (now (out .exit)) ⌝ }
 {
     let low = row::checks::is_low(state);
-    let unready = checks::ready(state, low, out.len());
-    if unready != 0 {
-        return refuse(unready);
+    let refusal = unready(state, low, out.len());
+    if refusal != 0 {
+        return refuse(refusal);
     }
     on_record(state, low, record, out)
 }

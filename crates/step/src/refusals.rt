@@ -1,8 +1,7 @@
-// Checks 6 to 13 on a record that was read, inner to the layer of the step. For 13, where a number is near L, the event is tried on a copy
-// of the row.
-use crate::checks;
+// Checks 6 to 13 on a record that was read. For 13, where a number is near L, the event is tried on a copy of the row.
 use crate::checks::ROOM;
 use crate::checks::made_within;
+use crate::checks::proposal_refusal;
 use records::Proposal;
 use records::Report;
 use row::LOW;
@@ -15,7 +14,8 @@ ghost use Rattle.rules.specs.Bounds.{Capped, low as lowNumber};
 ghost use Rattle.row.specs.Row.{stateOf, soundRow};
 ghost use Rattle.step.specs.Tried.{refusalFrom};
 
-// Check 13 on a report: it makes no number above L. A repeat makes none. Where a number is near L, another report is tried on a copy.
+// Check 13 on a report: it makes no number above L. A repeat makes none. Where a number is near L, another report is
+// tried on a copy.
 fn report_within(state: &[u32], low: bool, r: Report) -> bool
     requires { ⌜ (soundRow (now state) ≡ true) × (low ≡ true → Capped lowNumber lowNumber (stateOf (now state))) ⌝ }
     ensures { λ t. ⌜ t ≡ wellFormed (reportRule (stateOf (now (state .entry))) r .state) ⌝ }
@@ -35,7 +35,8 @@ fn report_within(state: &[u32], low: bool, r: Report) -> bool
 
 // Check 13 on a proposal that passes 6 to 12.
 fn proposal_within(state: &[u32], low: bool, p: Proposal) -> bool
-    requires { ⌜ (soundRow (now state) ≡ true) × (low ≡ true → Capped lowNumber lowNumber (stateOf (now state))) × (firstOf (proposalChecks (stateOf (now state)) p) ≡ 0) ⌝ }
+    requires { ⌜ (soundRow (now state) ≡ true) × (low ≡ true → Capped lowNumber lowNumber (stateOf (now state)))
+        × (firstOf (proposalChecks (stateOf (now state)) p) ≡ 0) ⌝ }
     ensures { λ t. ⌜ t ≡ wellFormed (proposalRule (stateOf (now (state .entry))) p .state) ⌝ }
 {
     if low & (p.start <= LOW) & (p.number <= LOW) {
@@ -67,7 +68,7 @@ pub fn proposal(state: &[u32], low: bool, unread: u8, p: Proposal) -> u8
     if unread != 0 {
         return unread;
     }
-    let refusal = checks::proposal(state, p);
+    let refusal = proposal_refusal(state, p);
     if refusal != 0 {
         return refusal;
     }

@@ -1,4 +1,4 @@
--- The answers of the code, case by case.
+-- For lib: the answers of the code, case by case.
 use mathlib.Core.Path.{_≡_, refl, sym, _∙_}
 use mathlib.Core.Bool.{Bool, true, false, _||_, not}
 use mathlib.Core.List.{List}
@@ -34,14 +34,17 @@ module _ (ws : List ℕ) where
   pub for-nobody : soundRow ws ≡ true → forNobody (stateOf ws) ≡ true → answers.Nobody ≡ waitingRow ws
   for-nobody e n = sym (sound e ∙ answer-nobody _ (sound-well ws e) n)
 
-  pub for-office : (o : ℕ) → soundRow ws ≡ true → forNobody (stateOf ws) ≡ false → o ≡ lowestLacking (stateOf ws) → o < 16 → answers.For o ≡ waitingRow ws
+  pub for-office : (o : ℕ) → soundRow ws ≡ true → forNobody (stateOf ws) ≡ false → o ≡ lowestLacking (stateOf ws)
+      → o < 16 → answers.For o ≡ waitingRow ws
   for-office o e n q l = sym (sound e ∙ answer-found _ (sound-well ws e) n ∙ rw (← q, lt-ltb o 16 l))
 
-  pub is-met : (o : ℕ) → soundRow ws ≡ true → forNobody (stateOf ws) ≡ false → o ≡ lowestLacking (stateOf ws) → 16 ≤ o → answers.Met ≡ waitingRow ws
+  pub is-met : (o : ℕ) → soundRow ws ≡ true → forNobody (stateOf ws) ≡ false → o ≡ lowestLacking (stateOf ws) → 16 ≤ o
+      → answers.Met ≡ waitingRow ws
   is-met o e n q l = sym (sound e ∙ answer-found _ (sound-well ws e) n ∙ rw (← q, le-ltb o 16 l))
 
 -- whether nobody is waited for, by what the code has read
-pub nobody-by : (s : State) (kind : ℕ) (net : SeatSet) (own : ℕ) (seat : Bool) → kind ≡ kindOf (s .mode) → net ≡ s .net → own ≡ s .own
+pub nobody-by : (s : State) (kind : ℕ) (net : SeatSet) (own : ℕ) (seat : Bool) → kind ≡ kindOf (s .mode)
+    → net ≡ s .net → own ≡ s .own
     → seat ≡ serves (net .bits) own → eqb kind 0 || not seat ≡ forNobody s
 unfolding forNobody seated
 nobody-by s kind net own seat k n o v = rw (v, k, n, o, kind-is-none (s .mode))

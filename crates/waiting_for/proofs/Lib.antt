@@ -1,1 +1,2 @@
+-- The laws of lib.
 mod Answers

@@ -1,4 +1,4 @@
--- What the code of a proposal makes of a state, as the rules say it.
+-- For on_proposal: what the code of a proposal makes of a state, as the rules say it.
 use mathlib.Core.Path.{_≡_}
 use mathlib.Core.Bool.{true, false}
 use lib.Dec.{eqb}

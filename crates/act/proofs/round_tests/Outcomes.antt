@@ -1,4 +1,4 @@
--- What the two tests make of a state, as the rules say it.
+-- For round_tests: what the two tests make of a state, as the rules say it.
 use mathlib.Core.Path.{_≡_, refl}
 use Rattle.rules.specs.State.{State}
 use Rattle.rules.specs.Rules.{andThen, slowTest, agreementTest, tests}

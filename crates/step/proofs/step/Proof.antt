@@ -11,8 +11,8 @@ use Rattle.step.proofs.step.Tie as tie
 is-low-requires : tie.Need-is-low-requires
 is-low-requires c κs = search needs
 
-ready-requires : tie.Need-ready-requires
-ready-requires c κs = search needs
+unready-requires : tie.Need-unready-requires
+unready-requires c κs = search needs
 
 refuse-requires : tie.Need-refuse-requires
 refuse-requires c κs = search needs
@@ -22,16 +22,25 @@ same-length c = search needs
 
 returns : tie.Need-returns
 returns c =
-    let a = c .before .before .before .before .before .before .before .before .before .args in
-    let n = c .before .before .ready in
+    let c9 = c .before .before .before .before .before .before .before .before .before in
+    let a = c9 .args in
+    let n = c .before .before .unready in
     refuse-meets _ (n .result) (a .state .now) (a .out .now) (c .refuse .result)
-    (exit-unready (a .state .now) (a .«record» .now) (length (a .out .now)) (n .result) (n .ensures) (c .before .if1 .taken)) (c .refuse .ensures)
+    (exit-unready (a .state .now) (a .«record» .now) (length (a .out .now)) (n .result) (n .ensures)
+    (c .before .if1 .taken)) (c .refuse .ensures)
 
 on-record-requires : tie.Need-on-record-requires
 on-record-requires c κs =
-    let a = c .before .before .before .before .before .before .before .before .before .before .args in
-    let e = ready-facts (a .state .now) (length (a .out .now)) (sym (c .before .before .before .ready .ensures) ∙ c .before .before .if1 .left) in
-    record { sound = e .0; is-low = λ t. low-is (a .state .now) (sym (c .before .before .before .before .before .is-low .ensures) ∙ t); fits = e .1 }
+    let c3 = c .before .before .before in
+    let c10 = c3 .before .before .before .before .before .before .before in
+    let a = c10 .args in
+    let e = ready-facts (a .state .now) (length (a .out .now))
+    (sym (c3 .unready .ensures) ∙ c .before .before .if1 .left) in
+    record {
+      sound = e .0;
+      is-low = λ t. low-is (a .state .now) (sym (c3 .before .before .is-low .ensures) ∙ t);
+      fits = e .1;
+    }
 
 same-length-2 : tie.Need-same-length-2
 same-length-2 c = search needs
@@ -47,7 +56,7 @@ step-spec =
     tie.close
     (tie.spec
     is-low-requires
-    ready-requires
+    unready-requires
     refuse-requires
     same-length
     returns

@@ -16,10 +16,16 @@ use Rattle.act.proofs.on_proposal.act_on_proposal.Statement.{statement}
 use Rattle.act.proofs.on_proposal.act_on_proposal.Tie as tie
 
 -- the members are the net view
-same : (c : tie.Else1) → tests (receiving (c .before .before .before .before .before .before .before .before .before .before .before .args .p) (stateOf (c .before .before .before .before .before .before .before .before .before .before .before .args .s .now))) ≡ proposalRule (stateOf (c .before .before .before .before .before .before .before .before .before .before .before .args .s .now)) (c .before .before .before .before .before .before .before .before .before .before .before .args .p)
+same : (c : tie.Else1)
+    → let c11 = c .before .before .before .before .before .before .before .before .before .before .before in
+    tests (receiving (c11 .args .p) (stateOf (c11 .args .s .now))) ≡ proposalRule (stateOf (c11 .args .s .now))
+    (c11 .args .p)
 same c =
-    let a = c .before .before .before .before .before .before .before .before .before .before .before .args in
-    proposal-same (stateOf (a .s .now)) (a .p) _ (c .before .before .before .before .before .before .before .net .ensures) (sym (c .before .equals .ensures) ∙ not-false _ (c .if1 .left))
+    let c7 = c .before .before .before .before .before .before .before in
+    let c11 = c7 .before .before .before .before in
+    let a = c11 .args in
+    proposal-same (stateOf (a .s .now)) (a .p) _ (c7 .net .ensures)
+    (sym (c .before .equals .ensures) ∙ not-false _ (c .if1 .left))
 
 net-requires : tie.Need-net-requires
 net-requires c κs = search needs
@@ -35,19 +41,27 @@ same-length c = search needs
 
 returns : tie.Need-returns
 returns c =
-    let a = c .before .before .before .before .before .before .before .before .before .before .before .args in
-    did-as (λ u. proposalRule u (a .p)) (did-quiet _ _ (c .before .before .before .before .receive .ensures))
-    (proposal-other (stateOf (a .s .now)) (a .p) _ (c .before .before .before .before .before .before .before .net .ensures) (sym (c .before .equals .ensures) ∙ not-true _ (c .if1 .taken)))
+    let c4 = c .before .before .before .before in
+    let c7 = c4 .before .before .before in
+    let c11 = c7 .before .before .before .before in
+    let a = c11 .args in
+    did-as (λ u. proposalRule u (a .p)) (did-quiet _ _ (c4 .receive .ensures))
+    (proposal-other (stateOf (a .s .now)) (a .p) _ (c7 .net .ensures)
+    (sym (c .before .equals .ensures) ∙ not-true _ (c .if1 .taken)))
 
 tests-requires : tie.Need-tests-requires
 tests-requires c κs =
-    let b = c .before .before .before .before .before .before .before .before .before .before .before .before .before in
+    let c6 = c .before .before .before .before .before .before in
+    let b = c6 .before .before .before .before .before .before .before in
     let a = b .args in
     let s = stateOf (a .s .now) in
-    let d = c .before .before .before .before .before .before .receive .ensures in (
+    let d = c6 .receive .ensures in (
       d .row,
-      rw (d .is) (bounded-le limit _ (received-bounded limit s (well-bounded s (b .pre .0 .1)) (a .p) (b .pre .1 .1) (b .pre .1 .2)) early (omega arith)),
-      rw (d .is) (event-fits tests s (receiving (a .p) s) (aProposal (a .p)) (length (a .out .now)) (same (c .before .before)) (b .pre .0 .2)),
+      rw (d .is) (bounded-le limit _
+          (received-bounded limit s (well-bounded s (b .pre .0 .1)) (a .p) (b .pre .1 .1) (b .pre .1 .2)) early
+          (omega arith)),
+      rw (d .is) (event-fits tests s (receiving (a .p) s) (aProposal (a .p)) (length (a .out .now))
+          (same (c .before .before)) (b .pre .0 .2)),
     )
 
 same-length-2 : tie.Need-same-length-2
@@ -58,8 +72,12 @@ same-length-3 c = search needs
 
 returns-2 : tie.Need-returns-2
 returns-2 c =
-    let a = c .before .before .before .before .before .before .before .before .before .before .before .before .before .before .before .before .before .before .args in
-    did-as (λ u. proposalRule u (a .p)) (did-after (c .before .before .before .before .before .before .before .before .before .before .before .receive .ensures) (c .before .before .before .before .tests .ensures)) (same (c .before .before .before .before .before .before .before))
+    let c4 = c .before .before .before .before in
+    let c7 = c4 .before .before .before in
+    let c11 = c7 .before .before .before .before in
+    let c18 = c11 .before .before .before .before .before .before .before in
+    let a = c18 .args in
+    did-as (λ u. proposalRule u (a .p)) (did-after (c11 .receive .ensures) (c4 .tests .ensures)) (same c7)
 
 pub act-on-proposal-spec : {M : Type 1} → statement M
 act-on-proposal-spec =

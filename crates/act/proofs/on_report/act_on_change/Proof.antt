@@ -24,17 +24,29 @@ abbrev rule : Report → State → Outcome
 rule r u = changeRule (withNet u (netAfter (u .net .bits) r))
 
 -- the net view after the report
-changed : (c : tie.After-net-after) → c .net-after .result .bits ≡ netAfter (stateOf (c .before .before .before .before .before .args .s .now) .net .bits) (c .before .before .before .before .before .args .r)
-changed c = c .net-after .ensures ∙ ap (λ (x : SeatSet). netAfter (x .bits) (c .before .before .before .before .before .args .r)) (c .before .net .ensures)
+changed : (c : tie.After-net-after)
+    → let c5 = c .before .before .before .before .before in
+    c .net-after .result .bits ≡ netAfter (stateOf (c5 .args .s .now) .net .bits) (c5 .args .r)
+changed c =
+    let c5 = c .before .before .before .before .before in
+    c .net-after .ensures ∙ ap (λ (x : SeatSet). netAfter (x .bits) (c5 .args .r)) (c .before .net .ensures)
 
 -- the office has a seat in it
-seats-own : (c : tie.Else1) → serves (c .before .before .before .before .before .before .before .before .net-after .result .bits) (c .before .before .before .before .before .before .own .result) ≡ true
+seats-own : (c : tie.Else1)
+    → let c6 = c .before .before .before .before .before .before in
+    serves (c6 .before .before .net-after .result .bits) (c6 .own .result) ≡ true
 seats-own c = sym (c .before .serves .ensures) ∙ not-false _ (c .if1 .left)
 
-seat : (c : tie.Else1) → fastRound (withNetSet (c .before .before .before .before .before .before .before .before .net-after .result) (stateOf (c .before .before .before .before .before .before .before .before .before .before .before .before .before .args .s .now))) ≡ rule (c .before .before .before .before .before .before .before .before .before .before .before .before .before .args .r) (stateOf (c .before .before .before .before .before .before .before .before .before .before .before .before .before .args .s .now))
+seat : (c : tie.Else1)
+    → let c8 = c .before .before .before .before .before .before .before .before in
+    let c13 = c8 .before .before .before .before .before in
+    fastRound (withNetSet (c8 .net-after .result) (stateOf (c13 .args .s .now))) ≡ rule (c13 .args .r)
+    (stateOf (c13 .args .s .now))
 seat c =
-    let a = c .before .before .before .before .before .before .before .before .before .before .before .before .before .args in
-    change-seated (stateOf (a .s .now)) (a .r) _ _ (changed (c .before .before .before .before .before .before .before .before)) (c .before .before .before .before .before .before .own .ensures) (seats-own c)
+    let c6 = c .before .before .before .before .before .before in
+    let c13 = c6 .before .before .before .before .before .before .before in
+    let a = c13 .args in
+    change-seated (stateOf (a .s .now)) (a .r) _ _ (changed (c6 .before .before)) (c6 .own .ensures) (seats-own c)
 
 net-requires : tie.Need-net-requires
 net-requires c κs = search needs
@@ -43,7 +55,9 @@ net-after-requires : tie.Need-net-after-requires
 net-after-requires c κs = search needs
 
 own-requires : tie.Need-own-requires
-own-requires c κs = let b = c .before .before .before .before .before .before in (b .pre .0, well-facts _ (b .pre .1) .own)
+own-requires c κs =
+    let b = c .before .before .before .before .before .before in
+    (b .pre .0, well-facts _ (b .pre .1) .own)
 
 set-net-requires : tie.Need-set-net-requires
 set-net-requires c κs = search needs
@@ -56,21 +70,29 @@ same-length c = search needs
 
 returns : tie.Need-returns
 returns c =
-    let a = c .before .before .before .before .before .before .before .before .before .before .before .before .before .args in
-    did-as (rule (a .r)) (did-quiet _ _ (c .before .before .before .before .set-net .ensures))
-    (change-left (stateOf (a .s .now)) (a .r) _ _ (changed (c .before .before .before .before .before .before .before .before)) (c .before .before .before .before .before .before .own .ensures) (sym (c .before .serves .ensures) ∙ not-true _ (c .if1 .taken)))
+    let c4 = c .before .before .before .before in
+    let c8 = c4 .before .before .before .before in
+    let c13 = c8 .before .before .before .before .before in
+    let a = c13 .args in
+    did-as (rule (a .r)) (did-quiet _ _ (c4 .set-net .ensures))
+    (change-left (stateOf (a .s .now)) (a .r) _ _ (changed c8) (c4 .before .before .own .ensures)
+    (sym (c .before .serves .ensures) ∙ not-true _ (c .if1 .taken)))
 
 fast-round-requires : tie.Need-fast-round-requires
 fast-round-requires c κs =
-    let b = c .before .before .before .before .before .before .before .before .before .before .before .before .before .before .before in
+    let c6 = c .before .before .before .before .before .before in
+    let c10 = c6 .before .before .before .before in
+    let b = c10 .before .before .before .before .before in
     let a = b .args in
     let s = stateOf (a .s .now) in
-    let d = c .before .before .before .before .before .before .set-net .ensures in
-    let net = c .before .before .before .before .before .before .before .before .before .before .net-after .result in (
+    let d = c6 .set-net .ensures in
+    let net = c10 .net-after .result in (
       d .row,
       rw (d .is) (net-bounded limit s (well-bounded s (b .pre .1)) net),
-      rw (d .is) (part-fits fastRound (withNetSet net s) _ (length (a .out .now)) (seat (c .before .before)) (change-size _) (b .pre .2)),
-      rw (d .is) (net-seated s (a .r) net _ (changed (c .before .before .before .before .before .before .before .before .before .before)) (c .before .before .before .before .before .before .before .before .own .ensures) (seats-own (c .before .before))),
+      rw (d .is) (part-fits fastRound (withNetSet net s) _ (length (a .out .now)) (seat (c .before .before))
+          (change-size _) (b .pre .2)),
+      rw (d .is) (net-seated s (a .r) net _ (changed c10) (c6 .before .before .own .ensures)
+          (seats-own (c .before .before))),
     )
 
 same-length-2 : tie.Need-same-length-2
@@ -81,8 +103,12 @@ same-length-3 c = search needs
 
 returns-2 : tie.Need-returns-2
 returns-2 c =
-    let a = c .before .before .before .before .before .before .before .before .before .before .before .before .before .before .before .before .before .before .before .before .args in
-    did-as (rule (a .r)) (did-after (c .before .before .before .before .before .before .before .before .before .before .before .set-net .ensures) (c .before .before .before .before .fast-round .ensures)) (seat (c .before .before .before .before .before .before .before))
+    let c4 = c .before .before .before .before in
+    let c7 = c4 .before .before .before in
+    let c11 = c7 .before .before .before .before in
+    let c20 = c11 .before .before .before .before .before .before .before .before .before in
+    let a = c20 .args in
+    did-as (rule (a .r)) (did-after (c11 .set-net .ensures) (c4 .fast-round .ensures)) (seat c7)
 
 pub act-on-change-spec : {M : Type 1} → statement M
 act-on-change-spec =

@@ -30,9 +30,12 @@ same-length-3 c = search needs
 
 returns-2 : tie.Need-returns-2
 returns-2 c =
-    let a = c .before .before .before .before .before .before .before .before .before .before .before .before .args in
-    did-as (λ u. reportRule u (a .r)) (c .before .before .before .before .act-on-change .ensures)
-    (sym (change-rule (stateOf (a .s .now)) (a .r) (sym (c .before .before .before .before .before .before .before .before .is-repeat .ensures) ∙ c .before .before .before .before .before .before .before .if1 .left)))
+    let c4 = c .before .before .before .before in
+    let c7 = c4 .before .before .before in
+    let c12 = c7 .before .before .before .before .before in
+    let a = c12 .args in
+    did-as (λ u. reportRule u (a .r)) (c4 .act-on-change .ensures)
+    (sym (change-rule (stateOf (a .s .now)) (a .r) (sym (c7 .before .is-repeat .ensures) ∙ c7 .if1 .left)))
 
 pub act-on-report-spec : {M : Type 1} → statement M
 act-on-report-spec =

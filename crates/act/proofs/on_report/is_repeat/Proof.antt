@@ -14,7 +14,10 @@ equals-requires : tie.Need-equals-requires
 equals-requires c κs = search needs
 
 returns : tie.Need-returns
-returns c = repeat-made (stateOf (c .before .before .before .before .args .s .now)) _ _ _ _ (c .before .before .net .ensures) (c .before .net-after .ensures) (c .equals .ensures)
+returns c =
+    let c4 = c .before .before .before .before in
+    repeat-made (stateOf (c4 .args .s .now)) _ _ _ _ (c .before .before .net .ensures) (c .before .net-after .ensures)
+    (c .equals .ensures)
 
 pub is-repeat-spec : {M : Type 1} → statement M
 is-repeat-spec = tie.close (tie.spec net-requires net-after-requires equals-requires returns)

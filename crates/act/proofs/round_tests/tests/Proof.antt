@@ -10,8 +10,11 @@ use Rattle.act.proofs.round_tests.Outcomes.{tests-is}
 use Rattle.act.proofs.round_tests.tests.Statement.{statement}
 use Rattle.act.proofs.round_tests.tests.Tie as tie
 
-room : (c : tie.Start) → Fits (λ s. andThen (slowTest s) agreementTest) (c .args .s .now) (c .args .out .now) (c .args .at)
-room c = fits-as (λ s. andThen (slowTest s) agreementTest) tests (c .args .s .now) (c .args .out .now) (c .args .at) (tests-is _) (c .pre .2)
+room : (c : tie.Start)
+    → Fits (λ s. andThen (slowTest s) agreementTest) (c .args .s .now) (c .args .out .now) (c .args .at)
+room c =
+    fits-as (λ s. andThen (slowTest s) agreementTest) tests (c .args .s .now) (c .args .out .now) (c .args .at)
+    (tests-is _) (c .pre .2)
 
 slow-test-requires : tie.Need-slow-test-requires
 slow-test-requires c κs =
@@ -36,7 +39,10 @@ same-length-2 : tie.Need-same-length-2
 same-length-2 c = search needs
 
 returns : tie.Need-returns
-returns c = did-as tests (did-then (c .before .before .before .before .before .before .before .before .before .before .before .slow-test .ensures) (c .before .before .before .before .agreement-test .ensures)) (tests-is _)
+returns c =
+    let c4 = c .before .before .before .before in
+    let c11 = c4 .before .before .before .before .before .before .before in
+    did-as tests (did-then (c11 .slow-test .ensures) (c4 .agreement-test .ensures)) (tests-is _)
 
 pub tests-spec : {M : Type 1} → statement M
 tests-spec =

@@ -12,10 +12,18 @@ use Rattle.agree.proofs.Agreeing.{agreement-not, agreement-is}
 use Rattle.agree.proofs.agreement.agreement_test.Statement.{statement}
 use Rattle.agree.proofs.agreement.agreement_test.Tie as tie
 
-did : (c : tie.After-slice-known4) → Did agreementTest (c .before .before .before .before .before .before .before .before .before .before .before .before .before .before .before .args .s .now) (c .before .before .before .before .before .before .before .before .before .before .before .before .before .before .before .args .out .now) (c .before .before .before .before .before .before .before .before .before .before .before .before .before .before .before .args .at)
-    (c .before .before .before .before .before .before .conclude .last .0) (c .before .before .write-view .last .0) (c .before .before .before .before .before .before .before .before .before .before .before .before .before .before .before .args .at + c .before .before .write-view .result)
-did c = did-wrote agreementTest (view _) (c .before .before .before .before .before .before .conclude .ensures)
-    (agreement-is _ _ (sym (c .before .before .before .before .before .before .before .before .before .before .before .agreed .ensures) ∙ not-false _ (c .before .before .before .before .before .before .before .before .before .before .if1 .left)) (c .before .before .before .before .before .before .before .before .view-of .ensures)) (c .before .before .before .before .before .before .before .before .before .before .before .before .before .before .before .pre .2) (c .before .before .write-view .ensures)
+did : (c : tie.After-slice-known4)
+    → let c6 = c .before .before .before .before .before .before in
+    let c15 = c6 .before .before .before .before .before .before .before .before .before in
+    Did agreementTest (c15 .args .s .now) (c15 .args .out .now) (c15 .args .at) (c6 .conclude .last .0)
+    (c .before .before .write-view .last .0) (c15 .args .at + c .before .before .write-view .result)
+did c =
+    let c6 = c .before .before .before .before .before .before in
+    let c10 = c6 .before .before .before .before in
+    let c15 = c10 .before .before .before .before .before in
+    did-wrote agreementTest (view _) (c6 .conclude .ensures)
+    (agreement-is _ _ (sym (c10 .before .agreed .ensures) ∙ not-false _ (c10 .if1 .left))
+    (c6 .before .before .view-of .ensures)) (c15 .pre .2) (c .before .before .write-view .ensures)
 
 agreed-requires : tie.Need-agreed-requires
 agreed-requires c κs = search needs
@@ -25,12 +33,16 @@ same-length c = search needs
 
 returns : tie.Need-returns
 returns c =
-    did-as agreementTest (did-none _ _ (c .before .before .before .before .before .pre .0)) (agreement-not _ (sym (c .before .agreed .ensures) ∙ not-true _ (c .if1 .taken)))
+    let c5 = c .before .before .before .before .before in
+    did-as agreementTest (did-none _ _ (c5 .pre .0))
+    (agreement-not _ (sym (c .before .agreed .ensures) ∙ not-true _ (c .if1 .taken)))
 
 view-of-requires : tie.Need-view-of-requires
 view-of-requires c κs =
-    let b = c .before .before .before .before .before .before .pre in
-    let h = start-bound reach _ (b .1) (sym (c .before .before .agreed .ensures) ∙ not-false _ (c .before .if1 .left)) in
+    let c6 = c .before .before .before .before .before .before in
+    let b = c6 .pre in
+    let h = start-bound reach _ (b .1) (sym (c .before .before .agreed .ensures) ∙ not-false _ (c .before .if1 .left))
+    in
     (b .0, omega arith)
 
 conclude-requires : tie.Need-conclude-requires
@@ -40,7 +52,10 @@ write-view-requires : tie.Need-write-view-requires
 write-view-requires c κs = search needs
 
 add-result : tie.Need-add-result
-add-result c = let e = did-end (did c) (c .before .before .before .before .before .before .before .before .before .before .before .before .before .before .before .pre .2) in omega arith
+add-result c =
+    let c8 = c .before .before .before .before .before .before .before .before in
+    let c15 = c8 .before .before .before .before .before .before .before in
+    let e = did-end (did c) (c15 .pre .2) in omega arith
 
 same-length-2 : tie.Need-same-length-2
 same-length-2 c = search needs

@@ -25,8 +25,14 @@ stored-number-requires c κs = search needs
 
 returns-2 : tie.Need-returns-2
 returns-2 c =
-    rw (c .stored-number .ensures, c .before .equals .ensures, c .before .before .stored-kind .ensures, c .before .before .before .stored-members .ensures)
-    (there _ _ _ _ (sym (c .before .before .before .before .before .stored-present .ensures) ∙ not-false _ (c .before .before .before .before .if1 .left)))
+    let c3 = c .before .before .before in
+    rw (
+      c .stored-number .ensures,
+      c .before .equals .ensures,
+      c .before .before .stored-kind .ensures,
+      c3 .stored-members .ensures,
+    )
+    (there _ _ _ _ (sym (c3 .before .before .stored-present .ensures) ∙ not-false _ (c3 .before .if1 .left)))
 
 pub disagrees-spec : {M : Type 1} → statement M
 disagrees-spec =

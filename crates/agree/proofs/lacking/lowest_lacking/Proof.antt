@@ -21,17 +21,21 @@ abbrev μ-loop : tie.MeasureT-loop
 
 -- the lowest of the offices left is an office
 office : (c : tie.After-lowest Inv-loop μ-loop) → c .lowest .result < 16
-office c = rw (c .lowest .ensures) (is-office (c .before .before .loop .left) (c .before .before .loop .inv .0) (c .before .loop-test .taken))
+office c =
+    rw (c .lowest .ensures)
+    (is-office (c .before .before .loop .left) (c .before .before .loop .inv .0) (c .before .loop-test .taken))
 
 -- whether it has the proposal, by the code's answer
 answer : (c : tie.After-disagrees Inv-loop μ-loop)
     → let s = stateOf (c .before .before .before .before .before .before .before .before .before .args .s .now) in
     agreesIn (s .mode) s (lowestOf (c .before .before .before .loop .left)) ≡ not (c .disagrees .result)
 answer c =
+    let c5 = c .before .before .before .before .before in
+    let c9 = c5 .before .before .before .before in
     rw (← c .before .lowest .ensures)
-    (agrees-by-code _ (c .before .before .before .before .before .before .before .before .before .pre .1) _ _ _ (c .before .lowest .result) _
-    (c .before .before .before .before .before .before .before .mode .ensures) (c .before .before .before .before .before .number .ensures)
-    (c .before .before .before .before .before .before .net .ensures) (c .disagrees .ensures))
+    (agrees-by-code _ (c9 .pre .1) _ _ _ (c .before .lowest .result) _
+    (c5 .before .before .mode .ensures) (c5 .number .ensures)
+    (c5 .before .net .ensures) (c .disagrees .ensures))
 
 mode-requires : tie.Need-mode-requires Inv-loop μ-loop
 mode-requires c κs = c .before .pre .0
@@ -62,9 +66,11 @@ disagrees-requires c κs = (c .before .before .before .before .before .before .b
 
 returns : tie.Need-returns Inv-loop μ-loop
 returns c =
-    let l = c .before .before .before .before .loop in
+    let c3 = c .before .before .before in
+    let l = c3 .before .loop in
     c .before .before .lowest .ensures
-    ∙ sym (stops _ (l .left) (l .inv .0) (c .before .before .before .loop-test .taken) (answer (c .before) ∙ ap not (c .if1 .taken))) ∙ l .inv .1
+    ∙ sym (stops _ (l .left) (l .inv .0) (c3 .loop-test .taken) (answer (c .before) ∙ ap not (c .if1 .taken)))
+    ∙ l .inv .1
 
 cast-left : tie.Need-cast-left Inv-loop μ-loop
 cast-left c = let o = office (c .before .before) in search needs
@@ -79,10 +85,13 @@ loop-less c =
 
 loop-again : tie.Need-loop-again Inv-loop μ-loop
 loop-again c =
-    let l = c .before .before .before .before .loop in
-    let some = c .before .before .before .loop-test .taken in
-    rw (c .before .before .lowest .ensures)
-    (let f = fewer (l .left) (l .inv .0) some in omega arith, sym (goes-on _ (l .left) (l .inv .0) some (answer (c .before) ∙ ap not (c .if1 .left))) ∙ l .inv .1)
+    let c3 = c .before .before .before in
+    let l = c3 .before .loop in
+    let some = c3 .loop-test .taken in
+    rw (c .before .before .lowest .ensures) (
+      let f = fewer (l .left) (l .inv .0) some in omega arith,
+      sym (goes-on _ (l .left) (l .inv .0) some (answer (c .before) ∙ ap not (c .if1 .left))) ∙ l .inv .1,
+    )
 
 returns-2 : tie.Need-returns-2 Inv-loop μ-loop
 returns-2 c = sym (looked-at-all _) ∙ rw (c .loop-test .left) at (c .before .loop .inv .1)

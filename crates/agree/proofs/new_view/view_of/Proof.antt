@@ -17,9 +17,11 @@ lay-starts-requires c κs = search needs
 
 add-t5 : tie.Need-add-t5
 add-t5 c =
-    let s = stateOf (c .before .before .before .before .before .args .s .now) in
-    let e : c .before .before .lay-starts .result .largest ≡ largest 16 (startOf s) = ap (λ (r : Laid). r .largest) (c .before .before .lay-starts .ensures) ∙ laid-largest s 16 (omega arith) in
-    let h = c .before .before .before .before .before .pre .1 in
+    let c5 = c .before .before .before .before .before in
+    let s = stateOf (c5 .args .s .now) in
+    let e : c .before .before .lay-starts .result .largest ≡ largest 16 (startOf s) =
+    ap (λ (r : Laid). r .largest) (c .before .before .lay-starts .ensures) ∙ laid-largest s 16 (omega arith) in
+    let h = c5 .pre .1 in
     omega arith
 
 returns : tie.Need-returns

@@ -22,8 +22,11 @@ same-length c = search needs
 
 returns : tie.Need-returns
 returns c =
-    changed-as _ (then (then (c .before .before .before .before .before .before .before .before .before .before .empty-all .ensures) (c .before .before .before .before .before .before .set-mode .ensures)) (c .before .before .put-view .ensures))
-    (concluded-by _ _ (c .before .before .before .before .before .before .before .before .before .before .before .before .before .before .before .pre .1))
+    let c6 = c .before .before .before .before .before .before in
+    let c10 = c6 .before .before .before .before in
+    let c15 = c10 .before .before .before .before .before in
+    changed-as _ (then (then (c10 .empty-all .ensures) (c6 .set-mode .ensures)) (c .before .before .put-view .ensures))
+    (concluded-by _ _ (c15 .pre .1))
 
 pub conclude-spec : {M : Type 1} → statement M
 conclude-spec =

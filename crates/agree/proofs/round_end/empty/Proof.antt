@@ -24,8 +24,14 @@ same-length c = search needs
 
 returns : tie.Need-returns
 returns c =
-    changed-as _ (then (c .before .before .before .before .before .before .set-used .ensures) (c .before .before .clear-stored .ensures))
-    (rw (c .before .before .before .before .before .before .before .before .counted .ensures, c .before .before .before .before .before .before .before .before .before .before .before .stored-present .ensures, c .before .before .before .before .before .before .before .before .before .stored-number .ensures))
+    let c6 = c .before .before .before .before .before .before in
+    let c9 = c6 .before .before .before in
+    changed-as _ (then (c6 .set-used .ensures) (c .before .before .clear-stored .ensures))
+    (rw (
+      c6 .before .before .counted .ensures,
+      c9 .before .before .stored-present .ensures,
+      c9 .stored-number .ensures,
+    ))
 
 pub empty-spec : {M : Type 1} → statement M
 empty-spec =

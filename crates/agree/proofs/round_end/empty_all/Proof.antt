@@ -21,7 +21,8 @@ abbrev μ-loop : tie.MeasureT-loop
 μ-loop s₀ net o₀ s o = 16 - o
 
 loop-holds : tie.Need-loop-holds Inv-loop μ-loop
-loop-holds c = (omega arith, record { is = sym (emptied-none _ (stored-length _) (used-length _)); row = c .before .pre .0 })
+loop-holds c =
+    (omega arith, record { is = sym (emptied-none _ (stored-length _) (used-length _)); row = c .before .pre .0 })
 
 cast-serves : tie.Need-cast-serves Inv-loop μ-loop
 cast-serves c = omega arith
@@ -40,15 +41,18 @@ loop-less c = omega arith
 
 loop-again : tie.Need-loop-again Inv-loop μ-loop
 loop-again c =
-    let l = c .before .before .before .loop in
-    let a = c .before .before .before .before .before in
+    let c3 = c .before .before .before in
+    let l = c3 .loop in
+    let a = c3 .before .before in
     let s = stateOf (a .args .s .now) in
     let e = c .before .serves .ensures in
     let n = ap (λ (x : SeatSet). serves (x .bits) (l .o)) (a .pre .1) in (
       omega arith,
       ⊎-elim
-          (λ w. rw (w .5) (changed-as _ (then (l .inv .1) (w .2 .ensures)) (emptied-one s (l .o) (omega arith) (sym n ∙ sym e ∙ w .0 .taken))))
-          (λ w. rw (w .1) (changed-as _ (l .inv .1) (emptied-skip s (l .o) (omega arith) (sym n ∙ sym e ∙ w .0 .left))))
+          (λ w. rw (w .5) (changed-as _ (then (l .inv .1) (w .2 .ensures))
+          (emptied-one s (l .o) (omega arith) (sym n ∙ sym e ∙ w .0 .taken))))
+          (λ w. rw (w .1) (changed-as _ (l .inv .1)
+          (emptied-skip s (l .o) (omega arith) (sym n ∙ sym e ∙ w .0 .left))))
           (c .if1 .came),
     )
 

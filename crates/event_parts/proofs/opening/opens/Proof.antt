@@ -8,11 +8,20 @@ use Rattle.rules.specs.Rules.{notice, opens}
 use Rattle.event_parts.proofs.opening.opens.Statement.{statement}
 use Rattle.event_parts.proofs.opening.opens.Tie as tie
 
-did : (c : tie.After-slice-known4) → Did opens (c .before .before .before .before .before .before .before .before .before .before .before .before .before .before .before .before .before .args .s .now) (c .before .before .before .before .before .before .before .before .before .before .before .before .before .before .before .before .before .args .out .now) (c .before .before .before .before .before .before .before .before .before .before .before .before .before .before .before .before .before .args .at)
-    (c .before .before .before .before .before .before .set-start .last .0) (c .before .before .write-notice .last .0) (c .before .before .before .before .before .before .before .before .before .before .before .before .before .before .before .before .before .args .at + c .before .before .write-notice .result)
-did c = did-wrote opens (notice _) (c .before .before .before .before .before .before .set-start .ensures)
-    (opens-is _ _ _ (rw (← c .before .before .before .before .before .before .before .before .before .before .before .before .before .view-number .ensures, ← c .before .before .before .before .before .before .before .before .before .before .before .start .ensures) (c .before .before .before .before .before .before .before .before .before .before .larger .ensures)) (c .before .before .before .before .before .before .before .before .net .ensures))
-    (c .before .before .before .before .before .before .before .before .before .before .before .before .before .before .before .before .before .pre .2) (c .before .before .write-notice .ensures)
+did : (c : tie.After-slice-known4)
+    → let c6 = c .before .before .before .before .before .before in
+    let c17 = c6 .before .before .before .before .before .before .before .before .before .before .before in
+    Did opens (c17 .args .s .now) (c17 .args .out .now) (c17 .args .at) (c6 .set-start .last .0)
+    (c .before .before .write-notice .last .0) (c17 .args .at + c .before .before .write-notice .result)
+did c =
+    let c6 = c .before .before .before .before .before .before in
+    let c10 = c6 .before .before .before .before in
+    let c13 = c10 .before .before .before in
+    let c17 = c13 .before .before .before .before in
+    did-wrote opens (notice _) (c6 .set-start .ensures)
+    (opens-is _ _ _ (rw (← c13 .view-number .ensures, ← c10 .before .start .ensures) (c10 .larger .ensures))
+    (c6 .before .before .net .ensures))
+    (c17 .pre .2) (c .before .before .write-notice .ensures)
 
 view-number-requires : tie.Need-view-number-requires
 view-number-requires c κs = search needs
@@ -36,7 +45,10 @@ write-notice-requires : tie.Need-write-notice-requires
 write-notice-requires c κs = search needs
 
 add-result : tie.Need-add-result
-add-result c = let e = did-end (did c) (c .before .before .before .before .before .before .before .before .before .before .before .before .before .before .before .before .before .pre .2) in omega arith
+add-result c =
+    let c8 = c .before .before .before .before .before .before .before .before in
+    let c17 = c8 .before .before .before .before .before .before .before .before .before in
+    let e = did-end (did c) (c17 .pre .2) in omega arith
 
 same-length : tie.Need-same-length
 same-length c = search needs

@@ -20,7 +20,9 @@ same-length c = search needs
 
 returns : tie.Need-returns
 unfolding received
-returns c = changed-as _ (then (c .before .before .before .before .before .before .put-stored .ensures) (c .before .before .set-accepted .ensures)) refl
+returns c =
+    let c6 = c .before .before .before .before .before .before in
+    changed-as _ (then (c6 .put-stored .ensures) (c .before .before .set-accepted .ensures)) refl
 
 pub receive-spec : {M : Type 1} → statement M
 receive-spec =

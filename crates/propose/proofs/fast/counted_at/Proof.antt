@@ -10,7 +10,10 @@ stored-present-requires : tie.Need-stored-present-requires
 stored-present-requires c κs = search needs
 
 returns : tie.Need-returns
-returns c = counted-empty _ (stateOf (c .before .before .before .args .s .now)) _ (sym (c .before .stored-present .ensures) ∙ not-true _ (c .if1 .taken))
+returns c =
+    let c3 = c .before .before .before in
+    counted-empty _ (stateOf (c3 .args .s .now)) _
+    (sym (c .before .stored-present .ensures) ∙ not-true _ (c .if1 .taken))
 
 cast-serves : tie.Need-cast-serves
 cast-serves c = search needs
@@ -26,9 +29,12 @@ counted-requires c κs = search needs
 
 returns-2 : tie.Need-returns-2
 returns-2 c =
+    let c3 = c .before .before .before in
+    let c6 = c3 .before .before .before in
     c .counted .ensures
     ∙ rw (c .before .before .serves .ensures, c .before .stored-number .ensures)
-    (counted-there _ (stateOf (c .before .before .before .before .before .before .args .s .now)) _ (sym (c .before .before .before .before .stored-present .ensures) ∙ not-false _ (c .before .before .before .if1 .left)))
+    (counted-there _ (stateOf (c6 .args .s .now)) _
+    (sym (c3 .before .stored-present .ensures) ∙ not-false _ (c3 .if1 .left)))
 
 pub counted-at-spec : {M : Type 1} → statement M
 counted-at-spec =

@@ -14,13 +14,27 @@ use Rattle.propose.proofs.fast.proposes_fast.Statement.{statement}
 use Rattle.propose.proofs.fast.proposes_fast.Tie as tie
 
 -- the proposal is the one that the rules make
-made : (c : tie.After-own-proposal) → c .own-proposal .result ≡ ownProposal Fast (nextNumber (stateOf (c .before .before .before .before .before .args .s .now))) (stateOf (c .before .before .before .before .before .args .s .now))
-made c = c .own-proposal .ensures ∙ ap (λ (k : ℕ). ownProposal Fast k (stateOf (c .before .before .before .before .before .args .s .now))) (c .before .next-number .ensures)
+made : (c : tie.After-own-proposal)
+    → let c5 = c .before .before .before .before .before in
+    c .own-proposal .result ≡ ownProposal Fast (nextNumber (stateOf (c5 .args .s .now))) (stateOf (c5 .args .s .now))
+made c =
+    let c5 = c .before .before .before .before .before in
+    c .own-proposal .ensures ∙ ap (λ (k : ℕ). ownProposal Fast k (stateOf (c5 .args .s .now)))
+    (c .before .next-number .ensures)
 
-did : (c : tie.After-slice-known4) → Did proposesFast (c .before .before .before .before .before .before .before .before .before .before .before .before .before .before .before .args .s .now) (c .before .before .before .before .before .before .before .before .before .before .before .before .before .before .before .args .out .now) (c .before .before .before .before .before .before .before .before .before .before .before .before .before .before .before .args .at)
-    (c .before .before .before .before .before .before .before .before .keep-own .last .0) (c .before .before .write-proposal .last .0) (c .before .before .before .before .before .before .before .before .before .before .before .before .before .before .before .args .at + c .before .before .write-proposal .result)
-did c = did-wrote proposesFast (proposal _) (c .before .before .before .before .before .before .before .before .keep-own .ensures)
-    (fast-written _ _ (made (c .before .before .before .before .before .before .before .before .before .before)) (sym (c .before .before .before .before .before .has-recipient .ensures) ∙ not-false _ (c .before .before .before .before .if1 .left))) (c .before .before .before .before .before .before .before .before .before .before .before .before .before .before .before .pre .2) (c .before .before .write-proposal .ensures)
+did : (c : tie.After-slice-known4)
+    → let c8 = c .before .before .before .before .before .before .before .before in
+    let c15 = c8 .before .before .before .before .before .before .before in
+    Did proposesFast (c15 .args .s .now) (c15 .args .out .now) (c15 .args .at) (c8 .keep-own .last .0)
+    (c .before .before .write-proposal .last .0) (c15 .args .at + c .before .before .write-proposal .result)
+did c =
+    let c4 = c .before .before .before .before in
+    let c8 = c4 .before .before .before .before in
+    let c15 = c8 .before .before .before .before .before .before .before in
+    did-wrote proposesFast (proposal _) (c8 .keep-own .ensures)
+    (fast-written _ _ (made (c8 .before .before))
+    (sym (c4 .before .has-recipient .ensures) ∙ not-false _ (c4 .if1 .left))) (c15 .pre .2)
+    (c .before .before .write-proposal .ensures)
 
 next-number-requires : tie.Need-next-number-requires
 next-number-requires c κs = search needs
@@ -29,7 +43,10 @@ own-proposal-requires : tie.Need-own-proposal-requires
 own-proposal-requires c κs = search needs
 
 keep-own-requires : tie.Need-keep-own-requires
-keep-own-requires c κs = let b = c .before .before .before .before .before .before .pre in ((b .0, b .1 .own, omega arith), own-same _ _ _ _ (made (c .before)))
+keep-own-requires c κs =
+    let c6 = c .before .before .before .before .before .before in
+    let b = c6 .pre in
+    ((b .0, b .1 .own, omega arith), own-same _ _ _ _ (made (c .before)))
 
 has-recipient-requires : tie.Need-has-recipient-requires
 has-recipient-requires c κs =
@@ -44,14 +61,18 @@ same-length c = search needs
 
 returns : tie.Need-returns
 returns c =
-    did-as proposesFast (did-quiet _ _ (c .before .before .before .before .keep-own .ensures))
-    (fast-alone _ _ (made (c .before .before .before .before .before .before)) (sym (c .before .has-recipient .ensures) ∙ not-true _ (c .if1 .taken)))
+    let c4 = c .before .before .before .before in
+    did-as proposesFast (did-quiet _ _ (c4 .keep-own .ensures))
+    (fast-alone _ _ (made (c4 .before .before)) (sym (c .before .has-recipient .ensures) ∙ not-true _ (c .if1 .taken)))
 
 write-proposal-requires : tie.Need-write-proposal-requires
 write-proposal-requires c κs = search needs
 
 add-result : tie.Need-add-result
-add-result c = let e = did-end (did c) (c .before .before .before .before .before .before .before .before .before .before .before .before .before .before .before .pre .2) in omega arith
+add-result c =
+    let c8 = c .before .before .before .before .before .before .before .before in
+    let c15 = c8 .before .before .before .before .before .before .before in
+    let e = did-end (did c) (c15 .pre .2) in omega arith
 
 same-length-2 : tie.Need-same-length-2
 same-length-2 c = search needs

@@ -26,8 +26,11 @@ same-length c = search needs
 
 returns : tie.Need-returns
 returns c =
-    let b = c .before .before .before .before .before .before .before .before .before .before .before .before .before .before in
-    changed-as _ (then (then (c .before .before .before .before .before .before .before .before .before .before .put-stored .ensures) (c .before .before .before .before .before .before .set-number .ensures)) (c .before .before .set-mode .ensures))
+    let c6 = c .before .before .before .before .before .before in
+    let c10 = c6 .before .before .before .before in
+    let b = c10 .before .before .before .before in
+    changed-as _ (then (then (c10 .put-stored .ensures) (c6 .set-number .ensures))
+    (c .before .before .set-mode .ensures))
     (kept-own _ _ _ (b .args .p) (b .pre .1))
 
 pub keep-own-spec : {M : Type 1} → statement M

@@ -18,7 +18,15 @@ used-within-requires c κs = search needs
 
 returns : tie.Need-returns
 unfolding ownProposal
-returns c = rw (mode-word _ (c .before .before .before .before .before .pre .2), c .used-within .ensures, c .before .start .ensures, c .before .before .own .ensures, c .before .before .before .net .ensures)
+returns c =
+    let c3 = c .before .before .before in
+    rw (
+      mode-word _ (c3 .before .before .pre .2),
+      c .used-within .ensures,
+      c .before .start .ensures,
+      c .before .before .own .ensures,
+      c3 .net .ensures,
+    )
 
 pub own-proposal-spec : {M : Type 1} → statement M
 own-proposal-spec =

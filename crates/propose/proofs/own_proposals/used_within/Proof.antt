@@ -11,7 +11,8 @@ use Rattle.propose.proofs.own_proposals.used_within.Statement.{statemen
 use Rattle.propose.proofs.own_proposals.used_within.Tie as tie
 
 abbrev Inv-loop : tie.InvT-loop
-Inv-loop s net used₀ o₀ used o = (o ≤ 16) × Filling 16 0 (λ k. ifb (serves (net .bits) k) (usedAt (stateOf s) k) 0) o used
+Inv-loop s net used₀ o₀ used o =
+    (o ≤ 16) × Filling 16 0 (λ k. ifb (serves (net .bits) k) (usedAt (stateOf s) k) 0) o used
 
 abbrev μ-loop : tie.MeasureT-loop
 μ-loop s net used₀ o₀ used o = 16 - o
@@ -45,9 +46,11 @@ loop-less c = omega arith
 
 loop-again : tie.Need-loop-again Inv-loop μ-loop
 loop-again c =
-    let l = c .before .before .before .before .loop in (
+    let c4 = c .before .before .before .before in
+    let l = c4 .loop in (
       omega arith,
-      filling-set 16 0 _ (l .o) (l .used) (l .inv .1) (omega arith) _ (c .counted .ensures ∙ rw (c .before .before .serves .ensures, c .before .used .ensures)),
+      filling-set 16 0 _ (l .o) (l .used) (l .inv .1) (omega arith) _
+          (c .counted .ensures ∙ rw (c .before .before .serves .ensures, c .before .used .ensures)),
     )
 
 returns : tie.Need-returns Inv-loop μ-loop

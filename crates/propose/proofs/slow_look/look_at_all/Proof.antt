@@ -29,7 +29,11 @@ loop-holds : tie.Need-loop-holds Inv-loop μ-loop
 loop-holds c = (omega arith, sym (look-none _))
 
 looked-requires : tie.Need-looked-requires Inv-loop μ-loop
-looked-requires c κs = let e = c .before .before .before .own .ensures in (c .before .before .before .before .before .before .pre .0, omega arith, omega (arith, c .before .before .before .before .before .before .pre .1))
+looked-requires c κs =
+    let c3 = c .before .before .before in
+    let c6 = c3 .before .before .before in
+    let e = c3 .own .ensures in
+    (c6 .pre .0, omega arith, omega (arith, c6 .pre .1))
 
 add-o : tie.Need-add-o Inv-loop μ-loop
 add-o c = omega arith
@@ -39,9 +43,14 @@ loop-less c = omega arith
 
 loop-again : tie.Need-loop-again Inv-loop μ-loop
 loop-again c =
+    let c3 = c .before .before .before in
+    let c7 = c3 .before .before .before .before in
     let l = c .before .before .loop in
-    let s = stateOf (c .before .before .before .before .before .before .before .args .s .now) in
-    (omega arith, look-next s (l .o) _ _ _ (l .a) _ (c .before .before .before .before .own .ensures) (c .before .before .before .number .ensures) (c .before .before .before .before .before .net .ensures) (l .inv .1) (c .looked .ensures))
+    let s = stateOf (c7 .args .s .now) in (
+      omega arith,
+      look-next s (l .o) _ _ _ (l .a) _ (c3 .before .own .ensures) (c3 .number .ensures)
+          (c3 .before .before .net .ensures) (l .inv .1) (c .looked .ensures),
+    )
 
 returns : tie.Need-returns Inv-loop μ-loop
 returns c =

@@ -46,8 +46,23 @@ larger-requires-2 c κs = search needs
 
 returns-2 : tie.Need-returns-2
 returns-2 c =
-    rw (c .larger2 .ensures, c .before .counted2 .ensures, c .before .before .serves .ensures, c .before .before .before .larger .ensures, c .before .before .before .before .counted .ensures, c .before .before .before .before .before .before .before .stored-used .ensures, c .before .before .before .before .before .before .before .before .before .stored-kind .ensures, c .before .before .before .before .before .before .before .before .before .before .equals .ensures, c .before .before .before .before .before .before .before .before .before .before .before .stored-members .ensures, c .before .before .before .before .before .before .before .before .before .before .before .before .stored-number .ensures)
-    (looked-there _ _ _ _ _ _ (sym (c .before .before .before .before .before .before .before .before .before .before .before .before .before .before .stored-present .ensures) ∙ not-false _ (c .before .before .before .before .before .before .before .before .before .before .before .before .before .if1 .left)))
+    let c3 = c .before .before .before in
+    let c7 = c3 .before .before .before .before in
+    let c10 = c7 .before .before .before in
+    let c13 = c10 .before .before .before in
+    rw (
+      c .larger2 .ensures,
+      c .before .counted2 .ensures,
+      c .before .before .serves .ensures,
+      c3 .larger .ensures,
+      c3 .before .counted .ensures,
+      c7 .stored-used .ensures,
+      c7 .before .before .stored-kind .ensures,
+      c10 .equals .ensures,
+      c10 .before .stored-members .ensures,
+      c10 .before .before .stored-number .ensures,
+    )
+    (looked-there _ _ _ _ _ _ (sym (c13 .before .stored-present .ensures) ∙ not-false _ (c13 .if1 .left)))
 
 pub looked-spec : {M : Type 1} → statement M
 looked-spec =

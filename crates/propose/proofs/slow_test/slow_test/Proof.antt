@@ -19,17 +19,27 @@ use Rattle.propose.proofs.slow_test.slow_test.Tie as tie
 idle : (c : tie.Then1) → stateOf (c .before .before .before .before .before .args .s .now) .mode ≡ None
 idle c = kind-none _ (sym (c .before .mode .ensures) ∙ c .if1 .taken)
 
-room : (c : tie.Then1) → Fits (λ s. andThen (opens s) proposesSlow) (c .before .before .before .before .before .args .s .now) (c .before .before .before .before .before .args .out .now) (c .before .before .before .before .before .args .at)
+room : (c : tie.Then1)
+    → let c5 = c .before .before .before .before .before in
+    Fits (λ s. andThen (opens s) proposesSlow) (c5 .args .s .now) (c5 .args .out .now) (c5 .args .at)
 room c =
-    let a = c .before .before .before .before .before .args in
-    fits-as (λ s. andThen (opens s) proposesSlow) slowTest (a .s .now) (a .out .now) (a .at) (slow-first _ (idle c)) (c .before .before .before .before .before .pre .2)
+    let c5 = c .before .before .before .before .before in
+    let a = c5 .args in
+    fits-as (λ s. andThen (opens s) proposesSlow) slowTest (a .s .now) (a .out .now) (a .at) (slow-first _ (idle c))
+    (c5 .pre .2)
 
 -- one is
 busy : (c : tie.Else1) → stateOf (c .before .before .before .before .before .args .s .now) .mode ≡ None → ⊥
 busy c e = c .if1 .left (c .before .mode .ensures ∙ ap kindOf e)
 
-called : (c : tie.After-slow-called) → c .slow-called .result ≡ slowCalled (stateOf (c .before .before .before .before .before .before .before .before .args .s .now))
-called c = c .slow-called .ensures ∙ called-is (stateOf (c .before .before .before .before .before .before .before .before .args .s .now)) _ _ (c .before .before .before .before .mode .ensures) (c .before .look-at-all .ensures)
+called : (c : tie.After-slow-called)
+    → let c8 = c .before .before .before .before .before .before .before .before in
+    c .slow-called .result ≡ slowCalled (stateOf (c8 .args .s .now))
+called c =
+    let c4 = c .before .before .before .before in
+    let c8 = c4 .before .before .before .before in
+    c .slow-called .ensures ∙ called-is (stateOf (c8 .args .s .now)) _ _ (c4 .mode .ensures)
+    (c .before .look-at-all .ensures)
 
 mode-requires : tie.Need-mode-requires
 mode-requires c κs = search needs
@@ -37,17 +47,22 @@ mode-requires c κs = search needs
 opens-requires : tie.Need-opens-requires
 opens-requires c κs =
     let b = c .before .before .before .before .before .before .before in
-    let a = b .args in
-    (b .pre .0, bounded-le early _ (b .pre .1) reach (omega arith), fits-first opens proposesSlow (a .s .now) (a .out .now) (a .at) (room (c .before .before)))
+    let a = b .args in (
+      b .pre .0,
+      bounded-le early _ (b .pre .1) reach (omega arith),
+      fits-first opens proposesSlow (a .s .now) (a .out .now) (a .at) (room (c .before .before)),
+    )
 
 proposes-slow-requires : tie.Need-proposes-slow-requires
 proposes-slow-requires c κs =
-    let b = c .before .before .before .before .before .before .before .before .before .before .before .before .before .before in
+    let c6 = c .before .before .before .before .before .before in
+    let c9 = c6 .before .before .before in
+    let b = c9 .before .before .before .before .before in
     let a = b .args in
-    let d = c .before .before .before .before .before .before .opens .ensures in (
+    let d = c6 .opens .ensures in (
       d .row,
       rw (d .is) (bounded-le (early + 1) _ (opens-bounded early _ (b .pre .1)) reach (omega arith)),
-      fits-second opens proposesSlow (a .s .now) (a .out .now) (a .at) (room (c .before .before .before .before .before .before .before .before .before)) _ _ _ d,
+      fits-second opens proposesSlow (a .s .now) (a .out .now) (a .at) (room c9) _ _ _ d,
     )
 
 same-length : tie.Need-same-length
@@ -57,7 +72,11 @@ same-length-2 : tie.Need-same-length-2
 same-length-2 c = search needs
 
 returns : tie.Need-returns
-returns c = did-as slowTest (did-then (c .before .before .before .before .before .before .before .before .before .before .before .opens .ensures) (c .before .before .before .before .proposes-slow .ensures)) (slow-first _ (idle (c .before .before .before .before .before .before .before .before .before .before .before .before .before .before)))
+returns c =
+    let c4 = c .before .before .before .before in
+    let c11 = c4 .before .before .before .before .before .before .before in
+    let c14 = c11 .before .before .before in
+    did-as slowTest (did-then (c11 .opens .ensures) (c4 .proposes-slow .ensures)) (slow-first _ (idle c14))
 
 look-at-all-requires : tie.Need-look-at-all-requires
 look-at-all-requires c κs = search needs
@@ -67,11 +86,17 @@ slow-called-requires c κs = search needs
 
 propose-requires : tie.Need-propose-requires
 propose-requires c κs =
-    let b = c .before .before .before .before .before .before .before .before .before .before .before in
+    let c3 = c .before .before .before in
+    let c6 = c3 .before .before .before in
+    let b = c6 .before .before .before .before .before in
     let a = b .args in
-    let e = slow-made (stateOf (a .s .now)) (busy (c .before .before .before .before .before .before)) (sym (called (c .before .before .before)) ∙ c .before .before .if2 .taken) in (
-      (b .pre .0, bounded-le early _ (b .pre .1) reach (omega arith), fits-as proposesSlow slowTest (a .s .now) (a .out .now) (a .at) e (b .pre .2)),
-      c .before .before .before .before .look-at-all .ensures,
+    let e = slow-made (stateOf (a .s .now)) (busy c6) (sym (called c3) ∙ c .before .before .if2 .taken) in (
+      (
+        b .pre .0,
+        bounded-le early _ (b .pre .1) reach (omega arith),
+        fits-as proposesSlow slowTest (a .s .now) (a .out .now) (a .at) e (b .pre .2),
+      ),
+      c3 .before .look-at-all .ensures,
     )
 
 same-length-3 : tie.Need-same-length-3
@@ -82,13 +107,18 @@ same-length-4 c = search needs
 
 returns-2 : tie.Need-returns-2
 returns-2 c =
-    did-as slowTest (c .before .before .before .before .propose .ensures) (slow-made _ (busy (c .before .before .before .before .before .before .before .before .before .before .before)) (sym (called (c .before .before .before .before .before .before .before .before)) ∙ c .before .before .before .before .before .before .before .if2 .taken))
+    let c4 = c .before .before .before .before in
+    let c7 = c4 .before .before .before in
+    let c11 = c7 .before .before .before .before in
+    did-as slowTest (c4 .propose .ensures) (slow-made _ (busy c11) (sym (called (c7 .before)) ∙ c7 .if2 .taken))
 
 same-length-5 : tie.Need-same-length-5
 same-length-5 c = search needs
 
 returns-3 : tie.Need-returns-3
-returns-3 c = did-as slowTest (did-none _ _ (c .before .before .before .before .before .before .before .before .before .pre .0)) (slow-quiet _ (sym (called (c .before)) ∙ c .if2 .left))
+returns-3 c =
+    let c9 = c .before .before .before .before .before .before .before .before .before in
+    did-as slowTest (did-none _ _ (c9 .pre .0)) (slow-quiet _ (sym (called (c .before)) ∙ c .if2 .left))
 
 pub slow-test-spec : {M : Type 1} → statement M
 slow-test-spec =

@@ -11,7 +11,9 @@ same-length : tie.Need-same-length
 same-length c = search needs
 
 returns : tie.Need-returns
-returns c = let s = c .before .before .before .before .before .before in c .before .before .put-run .ensures ∙ sets-all (s .args .from .now) (s .args .to .now) (s .pre)
+returns c =
+    let s = c .before .before .before .before .before .before in
+    c .before .before .put-run .ensures ∙ sets-all (s .args .from .now) (s .args .to .now) (s .pre)
 
 pub copy-spec : {M : Type 1} → statement M
 copy-spec = tie.close (tie.spec put-run-requires same-length returns)

@@ -23,16 +23,23 @@ slice-aggregate-put-run : tie.Need-slice-aggregate-put-run
 slice-aggregate-put-run c = search needs
 
 put-run-requires : tie.Need-put-run-requires
-put-run-requires c κs = let n = starts-len (c .before .before .before .before .before .before .before .before) in let m = c .before .before .before .before .before .put-set .kept .0 in simp length-set (omega arith)
+put-run-requires c κs =
+    let c5 = c .before .before .before .before .before in
+    let c8 = c5 .before .before .before in
+    let n = starts-len c8 in let m = c5 .put-set .kept .0 in simp length-set (omega arith)
 
 same-length : tie.Need-same-length
-same-length c = c .before .before .put-run .kept .0 ∙ simp length-set (c .before .before .before .before .before .before .before .before .put-set .kept .0)
+same-length c =
+    let c8 = c .before .before .before .before .before .before .before .before in
+    c .before .before .put-run .kept .0 ∙ simp length-set (c8 .put-set .kept .0)
 
 returns : tie.Need-returns
 returns c =
-    let s = c .before .before .before .before .before .before .before .before .before .before .before in
+    let c8 = c .before .before .before .before .before .before .before .before in
+    let s = c8 .before .before .before in
     let v = s .args .v in
-    rw (c .before .before .put-run .ensures ∙ ap (λ (l : List ℕ). sets l viewPlace (v .number ∷ v .starts)) (c .before .before .before .before .before .before .before .before .put-set .ensures))
+    rw (c .before .before .put-run .ensures ∙ ap (λ (l : List ℕ). sets l viewPlace (v .number ∷ v .starts))
+    (c8 .put-set .ensures))
     (view-changed (s .args .s .now) v (s .pre) (starts-len s))
 
 pub put-view-spec : {M : Type 1} → statement M

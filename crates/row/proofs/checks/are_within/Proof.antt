@@ -36,9 +36,12 @@ loop-less c = omega arith
 
 loop-again : tie.Need-loop-again Inv-loop μ-loop
 loop-again c =
+    let c3 = c .before .before .before in
     let l = c .before .before .loop in
-    let s = c .before .before .before .args in
-    (omega arith, ap (λ (b : Bool). within (getD (s .s .now) (s .at + l .k) 0) && b) (l .inv .1) ∙ sym (all-one (l .k) _))
+    let s = c3 .args in (
+      omega arith,
+      ap (λ (b : Bool). within (getD (s .s .now) (s .at + l .k) 0) && b) (l .inv .1) ∙ sym (all-one (l .k) _),
+    )
 
 returns : tie.Need-returns Inv-loop μ-loop
 returns c =

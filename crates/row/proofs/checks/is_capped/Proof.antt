@@ -27,8 +27,10 @@ stored-digits-requires c κs = search needs
 -- src/lib.rt:44:1
 returns : tie.Need-returns
 returns c e =
-    let ws = c .before .before .before .before .before .args .s .now in
-    capped-is ws (ap (λ (t : Bool). leb (getD ws startPlace 0) low && leb (getD ws numberPlace 0) low && leb (getD ws viewPlace 0) low && t) (sym (c .stored-digits .ensures)) ∙ e)
+    let c5 = c .before .before .before .before .before in
+    let ws = c5 .args .s .now in
+    capped-is ws (ap (λ (t : Bool). leb (getD ws startPlace 0) low && leb (getD ws numberPlace 0) low
+    && leb (getD ws viewPlace 0) low && t) (sym (c .stored-digits .ensures)) ∙ e)
 
 pub is-capped-spec : {M : Type 1} → statement M
 is-capped-spec =

@@ -23,8 +23,10 @@ all-numbers-requires c κs = row-is _ (is (c .before))
 
 returns : tie.Need-returns
 returns c =
-    let s = c .before .before .before .before .before .args .s .now in
-    ap (λ (b : Bool). leb (getD s ownPlace 0) 15 && b) (c .all-numbers .ensures) ∙ sym (low-words s (is (c .before .before)))
+    let c5 = c .before .before .before .before .before in
+    let s = c5 .args .s .now in
+    ap (λ (b : Bool). leb (getD s ownPlace 0) 15 && b) (c .all-numbers .ensures)
+    ∙ sym (low-words s (is (c .before .before)))
 
 returns-2 : tie.Need-returns-2
 returns-2 c = sym (not-low (c .before .before .before .args .s .now) (sym (c .before .is-row .ensures) ∙ c .if1 .left))

@@ -16,10 +16,14 @@ is-well-formed-requires : tie.Need-is-well-formed-requires
 is-well-formed-requires c κs = row-is _ (is c)
 
 returns : tie.Need-returns
-returns c = c .is-well-formed .ensures ∙ sym (sound-words (c .before .before .before .before .args .s .now) (is (c .before)))
+returns c =
+    let c4 = c .before .before .before .before in
+    c .is-well-formed .ensures ∙ sym (sound-words (c4 .args .s .now) (is (c .before)))
 
 returns-2 : tie.Need-returns-2
-returns-2 c = sym (not-sound (c .before .before .before .args .s .now) (sym (c .before .is-row .ensures) ∙ c .if1 .left))
+returns-2 c =
+    let c3 = c .before .before .before in
+    sym (not-sound (c3 .args .s .now) (sym (c .before .is-row .ensures) ∙ c .if1 .left))
 
 pub is-sound-spec : {M : Type 1} → statement M
 is-sound-spec = tie.close (tie.spec is-row-requires is-well-formed-requires returns returns-2)

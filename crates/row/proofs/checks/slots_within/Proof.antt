@@ -32,10 +32,12 @@ loop-less c = omega arith
 
 loop-again : tie.Need-loop-again Inv-loop μ-loop
 loop-again c =
+    let c4 = c .before .before .before .before in
     let l = c .before .before .loop in
-    let s = c .before .before .before .before .args .s .now in (
+    let s = c4 .args .s .now in (
       omega arith,
-      ap (λ (b : Bool). b && l .ok) (c .slot-within .ensures) ∙ ap (λ (b : Bool). slotWithin (storedAt (stateOf s) (l .o)) && b) (l .inv .1)
+      ap (λ (b : Bool). b && l .ok) (c .slot-within .ensures)
+          ∙ ap (λ (b : Bool). slotWithin (storedAt (stateOf s) (l .o)) && b) (l .inv .1)
           ∙ sym (all-one (l .o) _),
     )
 

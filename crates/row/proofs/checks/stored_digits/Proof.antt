@@ -13,7 +13,9 @@ use Rattle.row.proofs.checks.stored_digits.Statement.{statement}
 use Rattle.row.proofs.checks.stored_digits.Tie as tie
 
 abbrev Inv-loop : tie.InvT-loop
-Inv-loop s all₀ o₀ all o = (o ≤ 16) × (leb all low ≡ allb o (λ i. leb (getD s (numbersPlace i + 1) 0) low && leb (getD s (numbersPlace i) 0) low))
+Inv-loop s all₀ o₀ all o =
+    (o ≤ 16) × (leb all low ≡ allb o
+    (λ i. leb (getD s (numbersPlace i + 1) 0) low && leb (getD s (numbersPlace i) 0) low))
 
 abbrev μ-loop : tie.MeasureT-loop
 μ-loop s all₀ o₀ all o = 16 - o
@@ -51,7 +53,8 @@ loop-less c = omega arith
 
 -- two numbers more
 two-more : (all a b : ℕ) → leb (bitOr (bitOr all a) b) low ≡ leb b low && leb a low && leb all low
-two-more all a b = or-low (bitOr all a) b ∙ ap (λ (t : Bool). leb b low && t) (or-low all a) ∙ assoc (leb b low) (leb a low) (leb all low)
+two-more all a b = or-low (bitOr all a) b ∙ ap (λ (t : Bool). leb b low && t) (or-low all a)
+    ∙ assoc (leb b low) (leb a low) (leb all low)
   where
     assoc : (x y z : Bool) → x && (y && z) ≡ x && y && z
     assoc true y z = refl
@@ -59,11 +62,14 @@ two-more all a b = or-low (bitOr all a) b ∙ ap (λ (t : Bool). leb b low && t)
 
 loop-again : tie.Need-loop-again Inv-loop μ-loop
 loop-again c =
-    let l = c .before .before .before .loop in
-    let s = c .before .before .before .before .args .s .now in
+    let c3 = c .before .before .before in
+    let l = c3 .loop in
+    let s = c3 .before .args .s .now in
     let a = getD s (numbersPlace (l .o)) 0 in
-    let b = getD s (numbersPlace (l .o) + 1) 0 in
-    (omega arith, two-more (l .all) a b ∙ ap (λ (t : Bool). leb b low && leb a low && t) (l .inv .1) ∙ sym (all-one (l .o) _))
+    let b = getD s (numbersPlace (l .o) + 1) 0 in (
+      omega arith,
+      two-more (l .all) a b ∙ ap (λ (t : Bool). leb b low && leb a low && t) (l .inv .1) ∙ sym (all-one (l .o) _),
+    )
 
 returns : tie.Need-returns Inv-loop μ-loop
 returns c =

@@ -1,77 +1,28 @@
-use mathlib.Core.Path.{_≡_, refl, sym, ap, _∙_}
+use mathlib.Core.Path.{sym, ap, _∙_}
 use mathlib.Core.Bool.{Bool, _&&_}
-use Prim.Native.Nat.{_-_, _≤_}
 use native.Mathlib.Omega.{arith}
 use lib.Dec.{leb}
 use lib.ListN.{getD}
-use Rattle.laws.specs.Fin.{allb}
-use Rattle.row.specs.Row.{modePlace, slotPlace}
-use Rattle.laws.proofs.Loops.{all-one}
+use Rattle.row.specs.Row.{modePlace}
 use Rattle.row.proofs.Low.{row-not, row-tests}
+use borrow.Author.Needs.{needs}
 use Rattle.row.proofs.form.is_row.Statement.{statement}
 use Rattle.row.proofs.form.is_row.Tie as tie
 
-abbrev Inv-loop : tie.InvT-loop
-Inv-loop s ok₀ o₀ ok o = (o ≤ 16) × (ok ≡ allb o (λ i. leb (getD s (slotPlace i) 0) 1))
+returns : tie.Need-returns
+returns c = sym (row-not _ (c .if1 .taken))
 
-abbrev μ-loop : tie.MeasureT-loop
-μ-loop s ok₀ o₀ ok o = 16 - o
+shared-slice-read-result : tie.Need-shared-slice-read-result
+shared-slice-read-result c = search needs
 
-returns : tie.Need-returns Inv-loop μ-loop
-returns c = sym (row-not (c .before .args .s .now) (c .if1 .taken))
+are-flags-requires : tie.Need-are-flags-requires
+are-flags-requires c κs = search needs
 
-loop-holds : tie.Need-loop-holds Inv-loop μ-loop
-unfolding allb
-loop-holds c = (omega arith, refl)
-
-mul-ok : tie.Need-mul-ok Inv-loop μ-loop
-mul-ok c = omega arith
-
-add-ok : tie.Need-add-ok Inv-loop μ-loop
-add-ok c = omega arith
-
-mul-ok-2 : tie.Need-mul-ok-2 Inv-loop μ-loop
-mul-ok-2 c = omega arith
-
-shared-slice-read-ok : tie.Need-shared-slice-read-ok Inv-loop μ-loop
-shared-slice-read-ok c = omega arith
-
-add-o : tie.Need-add-o Inv-loop μ-loop
-add-o c = omega arith
-
-loop-less : tie.Need-loop-less Inv-loop μ-loop
-loop-less c = omega arith
-
-loop-again : tie.Need-loop-again Inv-loop μ-loop
-loop-again c =
-    let l = c .before .before .loop in
-    let s = c .before .before .before .before .args .s .now in
-    (omega arith, ap (λ (b : Bool). leb (getD s (slotPlace (l .o)) 0) 1 && b) (l .inv .1) ∙ sym (all-one (l .o) _))
-
-shared-slice-read-result : tie.Need-shared-slice-read-result Inv-loop μ-loop
-shared-slice-read-result c = omega arith
-
-returns-2 : tie.Need-returns-2 Inv-loop μ-loop
+returns-2 : tie.Need-returns-2
 returns-2 c =
-    let l = c .before .before .loop in
     let s = c .before .before .before .before .args .s .now in
-    let e : l .o ≡ 16 = omega arith in
-    ap (λ (b : Bool). leb (getD s modePlace 0) 2 && b) (l .inv .1 ∙ rw e) ∙ sym (row-tests s (c .before .before .before .if1 .left))
+    ap (λ (b : Bool). leb (getD s modePlace 0) 2 && b) (c .are-flags .ensures)
+    ∙ sym (row-tests s (c .before .before .if1 .left))
 
 pub is-row-spec : {M : Type 1} → statement M
-is-row-spec =
-    tie.close
-    (tie.spec
-    Inv-loop
-    μ-loop
-    returns
-    loop-holds
-    mul-ok
-    add-ok
-    mul-ok-2
-    shared-slice-read-ok
-    add-o
-    loop-less
-    loop-again
-    shared-slice-read-result
-    returns-2)
+is-row-spec = tie.close (tie.spec returns shared-slice-read-result are-flags-requires returns-2)

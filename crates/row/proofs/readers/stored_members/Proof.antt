@@ -20,8 +20,10 @@ set-at-requires c κs = search needs
 
 returns : tie.Need-returns
 unfolding slotOf
-returns c = let s = c .before .before in
-    c .set-at .ensures ∙ sym (ap (λ (v : Slot). v .proposal .members) (row-stored (s .args .s .now) (s .args .o) (s .pre .1)))
+returns c =
+    let s = c .before .before in
+    c .set-at .ensures ∙ sym
+    (ap (λ (v : Slot). v .proposal .members) (row-stored (s .args .s .now) (s .args .o) (s .pre .1)))
 
 pub stored-members-spec : {M : Type 1} → statement M
 stored-members-spec =

@@ -23,7 +23,9 @@ shared-slice-read-result : tie.Need-shared-slice-read-result
 shared-slice-read-result c = search needs
 
 returns : tie.Need-returns
-returns c = let s = c .before in sym (stored-used-is (s .args .s .now) (s .args .o) (s .args .k) (s .pre .1) (s .pre .2))
+returns c =
+    let s = c .before in
+    sym (stored-used-is (s .args .s .now) (s .args .o) (s .args .k) (s .pre .1) (s .pre .2))
 
 pub stored-used-spec : {M : Type 1} → statement M
 stored-used-spec =

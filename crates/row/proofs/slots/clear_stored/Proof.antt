@@ -16,7 +16,8 @@ returns : tie.Need-returns
 unfolding tab
 returns c =
     let s = c .before .before .before .before .before in
-    rw (c .before .before .put-slot .ensures) (stored-changed (s .args .s .now) (s .args .o) nothing (s .pre .0) (s .pre .1) refl)
+    rw (c .before .before .put-slot .ensures)
+    (stored-changed (s .args .s .now) (s .args .o) nothing (s .pre .0) (s .pre .1) refl)
 
 pub clear-stored-spec : {M : Type 1} → statement M
 clear-stored-spec = tie.close (tie.spec put-slot-requires same-length returns)

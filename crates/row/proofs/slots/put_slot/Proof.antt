@@ -45,10 +45,11 @@ same-length c = search needs
 
 returns : tie.Need-returns
 returns c =
-    let s = c .before .before .before .before .before .before .before .before .before .before .before .before .before .before .before .before in
+    let c6 = c .before .before .before .before .before .before in
+    let s = c6 .before .before .before .before .before .before .before .before .before .before in
     let p = s .args .p in
     c .before .before .put-numbers .ensures
-    ∙ ap (λ (l : List ℕ). sets l (numbersPlace (s .args .o)) (p .start ∷ p .number ∷ p .used)) (c .before .before .before .before .before .before .put-run .ensures)
+    ∙ ap (λ (l : List ℕ). sets l (numbersPlace (s .args .o)) (p .start ∷ p .number ∷ p .used)) (c6 .put-run .ensures)
 
 pub put-slot-spec : {M : Type 1} → statement M
 put-slot-spec =

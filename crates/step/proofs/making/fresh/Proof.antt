@@ -3,18 +3,22 @@ use borrow.Author.Needs.{needs}
 use Rattle.step.proofs.making.fresh.Statement.{statement}
 use Rattle.step.proofs.making.fresh.Tie as tie
 
-office-requires : tie.Need-office-requires
-office-requires c κs = search needs
+office-refusal-requires : tie.Need-office-refusal-requires
+office-refusal-requires c κs = search needs
 
 returns : tie.Need-returns
 returns c =
-    let a = c .before .before .before .before .args in
-    fresh-1-other (a .office) (a .state .now) (c .before .before .office .result) (c .before .before .office .ensures) (c .before .if1 .taken) (c .if2 .taken)
+    let c4 = c .before .before .before .before in
+    let a = c4 .args in
+    fresh-1-other (a .office) (a .state .now) (c .before .before .office-refusal .result)
+    (c .before .before .office-refusal .ensures) (c .before .if1 .taken) (c .if2 .taken)
 
 returns-2 : tie.Need-returns-2
 returns-2 c =
-    let a = c .before .before .before .before .args in
-    fresh-2 (a .office) (a .state .now) (c .before .before .office .result) (c .before .before .office .ensures) (c .before .if1 .taken) (c .if2 .left)
+    let c4 = c .before .before .before .before in
+    let a = c4 .args in
+    fresh-2 (a .office) (a .state .now) (c .before .before .office-refusal .result)
+    (c .before .before .office-refusal .ensures) (c .before .if1 .taken) (c .if2 .left)
 
 put-fresh-requires : tie.Need-put-fresh-requires
 put-fresh-requires c κs = search needs
@@ -24,9 +28,12 @@ same-length c = search needs
 
 returns-3 : tie.Need-returns-3
 returns-3 c =
-    let a = c .before .before .before .before .before .before .before .before .args in
-    let n = c .before .before .before .before .before .before .office in
-    fresh-1 (a .office) (a .state .now) (n .result) (n .ensures) (c .before .before .before .before .before .if1 .left) (c .before .before .before .before .if3 .taken) _ (c .before .before .put-fresh .ensures)
+    let c4 = c .before .before .before .before in
+    let c8 = c4 .before .before .before .before in
+    let a = c8 .args in
+    let n = c4 .before .before .office-refusal in
+    fresh-1 (a .office) (a .state .now) (n .result) (n .ensures) (c4 .before .if1 .left) (c4 .if3 .taken) _
+    (c .before .before .put-fresh .ensures)
 
 put-fresh-requires-2 : tie.Need-put-fresh-requires-2
 put-fresh-requires-2 c κs = search needs
@@ -36,15 +43,18 @@ same-length-2 c = search needs
 
 returns-4 : tie.Need-returns-4
 returns-4 c =
-    let a = c .before .before .before .before .before .before .before .before .args in
-    let n = c .before .before .before .before .before .before .office in
-    fresh-0 (a .office) (a .state .now) (n .result) (n .ensures) (c .before .before .before .before .before .if1 .left) (c .before .before .before .before .if3 .left) _ (c .before .before .put-fresh2 .ensures)
+    let c4 = c .before .before .before .before in
+    let c8 = c4 .before .before .before .before in
+    let a = c8 .args in
+    let n = c4 .before .before .office-refusal in
+    fresh-0 (a .office) (a .state .now) (n .result) (n .ensures) (c4 .before .if1 .left) (c4 .if3 .left) _
+    (c .before .before .put-fresh2 .ensures)
 
 pub fresh-spec : {M : Type 1} → statement M
 fresh-spec =
     tie.close
     (tie.spec
-    office-requires
+    office-refusal-requires
     returns
     returns-2
     put-fresh-requires

@@ -10,27 +10,36 @@ use Rattle.step.proofs.refusals.proposal.Tie as tie
 returns : tie.Need-returns
 returns c = from-unread _ _ _ (c .if1 .taken)
 
-proposal-requires : tie.Need-proposal-requires
-proposal-requires c κs =
+proposal-refusal-requires : tie.Need-proposal-refusal-requires
+proposal-refusal-requires c κs =
     let s = c .before .before in
     let ws = s .args .state .now in
     (sound-row ws (s .pre .0), well-facts (stateOf ws) (sound-well ws (s .pre .0)) .own)
 
 returns-2 : tie.Need-returns-2
-returns-2 c = from-checks _ (aProposal _) _ (c .before .before .if1 .left) _ (c .before .proposal .ensures) (c .if2 .taken)
+returns-2 c =
+    from-checks _ (aProposal _) _ (c .before .before .if1 .left) _ (c .before .proposal-refusal .ensures)
+    (c .if2 .taken)
 
 proposal-within-requires : tie.Need-proposal-within-requires
-proposal-within-requires c κs = let s = c .before .before .before .before in (s .pre .0, s .pre .1, sym (c .before .proposal .ensures) ∙ c .if2 .left)
+proposal-within-requires c κs =
+    let s = c .before .before .before .before in
+    (s .pre .0, s .pre .1, sym (c .before .proposal-refusal .ensures) ∙ c .if2 .left)
 
 returns-3 : tie.Need-returns-3
 returns-3 c =
-    from-0 _ (aProposal _) _ (c .before .before .before .before .if1 .left) (sym (c .before .before .before .proposal .ensures) ∙ c .before .before .if2 .left)
+    let c3 = c .before .before .before in
+    from-0 _ (aProposal _) _ (c3 .before .if1 .left)
+    (sym (c3 .proposal-refusal .ensures) ∙ c .before .before .if2 .left)
     (sym (c .before .proposal-within .ensures) ∙ c .if3 .taken)
 
 returns-4 : tie.Need-returns-4
 returns-4 c =
-    from-13 _ (aProposal _) _ (c .before .before .before .before .if1 .left) (sym (c .before .before .before .proposal .ensures) ∙ c .before .before .if2 .left)
+    let c3 = c .before .before .before in
+    from-13 _ (aProposal _) _ (c3 .before .if1 .left)
+    (sym (c3 .proposal-refusal .ensures) ∙ c .before .before .if2 .left)
     (sym (c .before .proposal-within .ensures) ∙ c .if3 .left)
 
 pub proposal-spec : {M : Type 1} → statement M
-proposal-spec = tie.close (tie.spec returns proposal-requires returns-2 proposal-within-requires returns-3 returns-4)
+proposal-spec = tie.close
+    (tie.spec returns proposal-refusal-requires returns-2 proposal-within-requires returns-3 returns-4)

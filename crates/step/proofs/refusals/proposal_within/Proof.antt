@@ -12,7 +12,7 @@ use Rattle.rule_laws.proofs.Steps.{check-facts}
 use Rattle.row.specs.Row.{stateOf, low}
 use Rattle.step.specs.Checks.{madeWithin}
 use Rattle.step.proofs.Lowness.{proposal-stays}
-use Rattle.step.proofs.Made.{made-is-well}
+use Rattle.step.proofs.Within.{made-is-well}
 use Rattle.row.proofs.Low.{sound-well, sound-row}
 use borrow.Author.Needs.{needs}
 use Rattle.step.proofs.refusals.proposal_within.Statement.{statement}
@@ -24,14 +24,17 @@ returns c =
     let ws = s .args .state .now in
     let l = leb (s .args .p .start) low in
     let a = and-l (s .args .low && l) (leb (s .args .p .number) low) (c .if1 .taken) in
-    sym (proposal-stays (stateOf ws) (sound-well ws (s .pre .0)) (s .pre .1 (and-l (s .args .low) l a)) (s .args .p) (s .pre .2)
+    sym (proposal-stays (stateOf ws) (sound-well ws (s .pre .0)) (s .pre .1 (and-l (s .args .low) l a)) (s .args .p)
+    (s .pre .2)
     (leb-true _ _ (and-r (s .args .low) l a)) (leb-true _ _ (and-r (s .args .low && l) _ (c .if1 .taken))))
 
 slice-aggregate-copy : tie.Need-slice-aggregate-copy
 slice-aggregate-copy c = search needs
 
 copy-requires : tie.Need-copy-requires
-copy-requires c κs = let s = c .before .before .before .before .before in sym (sound-row (s .args .state .now) (s .pre .0) .long)
+copy-requires c κs =
+    let s = c .before .before .before .before .before in
+    sym (sound-row (s .args .state .now) (s .pre .0) .long)
 
 slice-aggregate-act-on-proposal : tie.Need-slice-aggregate-act-on-proposal
 slice-aggregate-act-on-proposal c = search needs
@@ -41,11 +44,14 @@ slice-aggregate-act-on-proposal-2 c = search needs
 
 act-on-proposal-requires : tie.Need-act-on-proposal-requires
 act-on-proposal-requires c κs =
-    let s = c .before .before .before .before .before .before .before .before .before in
+    let c3 = c .before .before .before in
+    let s = c3 .before .before .before .before .before .before in
     let ws = s .args .state .now in
-    let e = c .before .before .before .copy .ensures in
-    let f = check-facts (stateOf ws) (s .args .p) (s .pre .2) in
-    ((rw e (sound-row ws (s .pre .0)), rw e (sound-well ws (s .pre .0)), omega arith), (f .sender, f .start .1, f .number .1))
+    let e = c3 .copy .ensures in
+    let f = check-facts (stateOf ws) (s .args .p) (s .pre .2) in (
+      (rw e (sound-row ws (s .pre .0)), rw e (sound-well ws (s .pre .0)), omega arith),
+      (f .sender, f .start .1, f .number .1),
+    )
 
 slice-aggregate-made-within : tie.Need-slice-aggregate-made-within
 slice-aggregate-made-within c = search needs
@@ -55,10 +61,13 @@ made-within-requires c κs = search needs
 
 returns-2 : tie.Need-returns-2
 returns-2 c =
-    let s = c .before .before .before .before .before .before .before .before .before .before .before .before .before .before in
+    let c4 = c .before .before .before .before in
+    let c8 = c4 .before .before .before .before in
+    let s = c8 .before .before .before .before .before .before in
     let ws = s .args .state .now in
     c .made-within .ensures
-    ∙ ap madeWithin (c .before .before .before .before .act-on-proposal .ensures .is ∙ ap (λ (l : List ℕ). proposalRule (stateOf l) (s .args .p) .state) (c .before .before .before .before .before .before .before .before .copy .ensures))
+    ∙ ap madeWithin (c4 .act-on-proposal .ensures .is
+    ∙ ap (λ (l : List ℕ). proposalRule (stateOf l) (s .args .p) .state) (c8 .copy .ensures))
     ∙ made-is-well (stateOf ws) (aProposal (s .args .p)) (sound-well ws (s .pre .0)) (s .pre .2)
 
 pub proposal-within-spec : {M : Type 1} → statement M

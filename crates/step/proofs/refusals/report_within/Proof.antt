@@ -8,7 +8,7 @@ use Rattle.rule_laws.proofs.Repeats.{repeat-rule, change-rule}
 use Rattle.row.specs.Row.{stateOf}
 use Rattle.step.specs.Checks.{madeWithin}
 use Rattle.step.proofs.Lowness.{report-stays}
-use Rattle.step.proofs.Made.{made-is-well}
+use Rattle.step.proofs.Within.{made-is-well}
 use Rattle.row.proofs.Low.{sound-well, sound-row}
 use borrow.Author.Needs.{needs}
 use Rattle.step.proofs.refusals.report_within.Statement.{statement}
@@ -27,14 +27,17 @@ returns-2 : tie.Need-returns-2
 returns-2 c =
     let s = c .before .before .before .before in
     let ws = s .args .state .now in
-    sym (ap (λ (o : Outcome). wellFormed (o .state)) (repeat-rule (stateOf ws) (s .args .r) (sym (c .before .is-repeat .ensures) ∙ c .if2 .taken))
+    sym (ap (λ (o : Outcome). wellFormed (o .state))
+    (repeat-rule (stateOf ws) (s .args .r) (sym (c .before .is-repeat .ensures) ∙ c .if2 .taken))
     ∙ sound-well ws (s .pre .0))
 
 slice-aggregate-copy : tie.Need-slice-aggregate-copy
 slice-aggregate-copy c = search needs
 
 copy-requires : tie.Need-copy-requires
-copy-requires c κs = let s = c .before .before .before .before .before in sym (sound-row (s .args .state .now) (s .pre .0) .long)
+copy-requires c κs =
+    let s = c .before .before .before .before .before in
+    sym (sound-row (s .args .state .now) (s .pre .0) .long)
 
 slice-aggregate-act-on-change : tie.Need-slice-aggregate-act-on-change
 slice-aggregate-act-on-change c = search needs
@@ -58,13 +61,17 @@ made-within-requires c κs = search needs
 -- what is tried is the rule, since it is no repeat
 returns-3 : tie.Need-returns-3
 returns-3 c =
-    let s = c .before .before .before .before .before .before .before .before .before .before .before .before .before .before in
+    let c4 = c .before .before .before .before in
+    let c8 = c4 .before .before .before .before in
+    let c11 = c8 .before .before .before in
+    let s = c11 .before .before .before in
     let ws = s .args .state .now in
     let r = s .args .r in
-    let rule = change-rule (stateOf ws) r (sym (c .before .before .before .before .before .before .before .before .before .before .before .is-repeat .ensures) ∙ c .before .before .before .before .before .before .before .before .before .before .if2 .left) in
+    let rule = change-rule (stateOf ws) r (sym (c11 .is-repeat .ensures) ∙ c8 .before .before .if2 .left) in
     c .made-within .ensures
-    ∙ ap madeWithin (c .before .before .before .before .act-on-change .ensures .is
-    ∙ ap (λ (l : List ℕ). changeRule (withNet (stateOf l) (netAfter (stateOf l .net .bits) r)) .state) (c .before .before .before .before .before .before .before .before .copy .ensures)
+    ∙ ap madeWithin (c4 .act-on-change .ensures .is
+    ∙ ap (λ (l : List ℕ). changeRule (withNet (stateOf l) (netAfter (stateOf l .net .bits) r)) .state)
+    (c8 .copy .ensures)
     ∙ ap (λ (o : Outcome). o .state) (sym rule))
     ∙ made-is-well (stateOf ws) (aReport r) (sound-well ws (s .pre .0)) refl
 

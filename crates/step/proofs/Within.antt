@@ -1,4 +1,4 @@
--- Check 13: the numbers that an event can make.
+-- For refusals: check 13, by the numbers that an event can make.
 use mathlib.Core.Path.{_≡_, refl, sym, _∙_}
 use mathlib.Core.Bool.{Bool, true, false, _&&_}
 use borrow.Author.Tests.{le-leb, leb-true}

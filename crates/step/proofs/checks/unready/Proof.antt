@@ -7,13 +7,14 @@ use Rattle.row.specs.Row.{soundRow}
 use Rattle.row.proofs.Low.{low-sound}
 use Rattle.step.proofs.Readiness.{unready-2, unready-3, unready-0}
 use borrow.Author.Needs.{needs}
-use Rattle.step.proofs.checks.ready.Statement.{statement}
-use Rattle.step.proofs.checks.ready.Tie as tie
+use Rattle.step.proofs.checks.unready.Statement.{statement}
+use Rattle.step.proofs.checks.unready.Tie as tie
 
 -- check 2 passed: the numbers are all low, or the row was looked at
 sound : (c : tie.Joined1) → soundRow (c .before .before .args .state .now) ≡ true
 sound c =
-    ⊎-elim (λ t. sym (t .1 .ensures) ∙ not-false _ (t .2 .left)) (λ e. low-sound _ (sym (c .before .before .pre) ∙ not-false _ (e .left)))
+    ⊎-elim (λ t. sym (t .1 .ensures) ∙ not-false _ (t .2 .left))
+    (λ e. low-sound _ (sym (c .before .before .pre) ∙ not-false _ (e .left)))
     (c .if1 .came)
 
 is-sound-requires : tie.Need-is-sound-requires
@@ -28,5 +29,5 @@ returns-2 c = sym (unready-3 _ _ (sound (c .before)) (omega arith))
 returns-3 : tie.Need-returns-3
 returns-3 c = sym (unready-0 _ _ (sound (c .before)) (omega arith))
 
-pub ready-spec : {M : Type 1} → statement M
-ready-spec = tie.close (tie.spec is-sound-requires returns returns-2 returns-3)
+pub unready-spec : {M : Type 1} → statement M
+unready-spec = tie.close (tie.spec is-sound-requires returns returns-2 returns-3)
