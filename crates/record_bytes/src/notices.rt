@@ -1,4 +1,5 @@
 // Start notices: the reader of a lone one, total, with the two checks on its own mark and length; and the writer.
+use crate::own_checks::accepted;
 use crate::own_checks::check_own;
 use records::Notice;
 use records::bytes::get32;
@@ -10,8 +11,7 @@ use records::bytes::room;
 use records::layout;
 use seats::SeatSet;
 ghost use mathlib.Core.Path.{_≡_};
-ghost use lib.ListN.{length};
-ghost use Rattle.records.specs.Layout.{noticeLength, encodeNotice, decodeNotice};
+ghost use Rattle.records.specs.Layout.{noticeLength, encodeNotice, decodeNotice, sized};
 ghost use Rattle.records.specs.Write.{Placed};
 ghost use Rattle.record_bytes.specs.notices.Read.{readNotice};
 
@@ -21,10 +21,16 @@ pub struct NoticeRead {
     pub notice: Notice,
 }
 
+// What the fields say; zeros where the length is another.
 fn decode_notice(bytes: &[u8]) -> Notice
-    requires { ⌜ length (now bytes) ≡ noticeLength ⌝ }
-    ensures { λ r. ⌜ r ≡ decodeNotice (now (bytes .entry)) ⌝ }
+    ensures { λ r. ⌜ r ≡ decodeNotice (sized noticeLength (now (bytes .entry))) ⌝ }
 {
+    if bytes.len() != layout::NOTICE_LENGTH {
+        return Notice {
+            start: 0,
+            members: SeatSet::EMPTY,
+        };
+    }
     Notice {
         start: get32(bytes, layout::NOTICE_START),
         members: SeatSet {
@@ -37,18 +43,9 @@ pub fn read_notice(bytes: &[u8]) -> NoticeRead
     ensures { λ r. ⌜ r ≡ readNotice (now (bytes .entry)) ⌝ }
 {
     let refusal = check_own(&layout::NOTICE_MARK, layout::NOTICE_LENGTH, bytes);
-    if refusal != 0 {
-        return NoticeRead {
-            refusal,
-            notice: Notice {
-                start: 0,
-                members: SeatSet::EMPTY,
-            },
-        };
-    }
     NoticeRead {
         refusal,
-        notice: decode_notice(bytes),
+        notice: decode_notice(accepted(refusal, bytes)),
     }
 }
 

@@ -1,9 +1,9 @@
-// The two checks on a record's own mark and length; inner to the layer of records.
+// The two checks on a record's own mark and length, and the bytes that pass them; inner to this crate.
 use records::bytes::get16;
 use records::mark_of;
 ghost use mathlib.Core.Path.{_≡_};
 ghost use Prim.Native.Nat.{_<_};
-ghost use Rattle.records.specs.Layout.{checkOwn};
+ghost use Rattle.records.specs.Layout.{checkOwn, accepted};
 
 // Checks 4 and 5 on a record's own mark and its own length.
 pub fn check_own(mark: &[u8; 2], n: usize, bytes: &[u8]) -> u8
@@ -14,4 +14,11 @@ pub fn check_own(mark: &[u8; 2], n: usize, bytes: &[u8]) -> u8
         return 4;
     }
     if bytes.len() == n { 0 } else { 5 }
+}
+
+// The bytes of an accepted record; none of a refused one.
+pub fn accepted<'a>(refusal: u8, bytes: &'a [u8]) -> &'a [u8]
+    ensures { λ r. ⌜ now r ≡ accepted refusal (now (bytes .entry)) ⌝ }
+{
+    if refusal == 0 { bytes } else { &bytes[..0] }
 }

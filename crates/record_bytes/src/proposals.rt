@@ -1,4 +1,6 @@
-// Proposals: the reader of a lone one, total, with the two checks on its own mark and length; and the writer.
+// Proposals: the reader of a lone one, total, with the two checks on its own mark and length; the decoder, for a
+// mark that was looked at; and the writer.
+use crate::own_checks::accepted;
 use crate::own_checks::check_own;
 use records::Proposal;
 use records::bytes::get_sixteen;
@@ -13,8 +15,7 @@ use records::bytes::room;
 use records::layout;
 use seats::SeatSet;
 ghost use mathlib.Core.Path.{_≡_};
-ghost use lib.ListN.{length};
-ghost use Rattle.records.specs.Layout.{proposalLength, encodeProposal, decodeProposal};
+ghost use Rattle.records.specs.Layout.{proposalLength, encodeProposal, decodeProposal, sized};
 ghost use Rattle.records.specs.Write.{Placed};
 ghost use Rattle.record_bytes.specs.proposals.Read.{readProposal};
 
@@ -24,10 +25,20 @@ pub struct ProposalRead {
     pub proposal: Proposal,
 }
 
-fn decode_proposal(bytes: &[u8]) -> Proposal
-    requires { ⌜ length (now bytes) ≡ proposalLength ⌝ }
-    ensures { λ r. ⌜ r ≡ decodeProposal (now (bytes .entry)) ⌝ }
+// What the fields say; zeros where the length is another.
+pub fn decode_proposal(bytes: &[u8]) -> Proposal
+    ensures { λ r. ⌜ r ≡ decodeProposal (sized proposalLength (now (bytes .entry))) ⌝ }
 {
+    if bytes.len() != layout::PROPOSAL_LENGTH {
+        return Proposal {
+            sender: 0,
+            kind: 0,
+            members: SeatSet::EMPTY,
+            start: 0,
+            number: 0,
+            used: [0; 16],
+        };
+    }
     Proposal {
         sender: bytes[layout::SENDER],
         kind: bytes[layout::KIND],
@@ -44,22 +55,9 @@ pub fn read_proposal(bytes: &[u8]) -> ProposalRead
     ensures { λ r. ⌜ r ≡ readProposal (now (bytes .entry)) ⌝ }
 {
     let refusal = check_own(&layout::PROPOSAL_MARK, layout::PROPOSAL_LENGTH, bytes);
-    if refusal != 0 {
-        return ProposalRead {
-            refusal,
-            proposal: Proposal {
-                sender: 0,
-                kind: 0,
-                members: SeatSet::EMPTY,
-                start: 0,
-                number: 0,
-                used: [0; 16],
-            },
-        };
-    }
     ProposalRead {
         refusal,
-        proposal: decode_proposal(bytes),
+        proposal: decode_proposal(accepted(refusal, bytes)),
     }
 }
 

@@ -1,4 +1,6 @@
-// Reports: the reader of a lone one, total, with the two checks on its own mark and length; and the writer.
+// Reports: the reader of a lone one, total, with the two checks on its own mark and length; the decoder, for a
+// mark that was looked at; and the writer.
+use crate::own_checks::accepted;
 use crate::own_checks::check_own;
 use records::Report;
 use records::bytes::get64;
@@ -8,8 +10,7 @@ use records::bytes::room;
 use records::layout;
 use seats::SeatSet;
 ghost use mathlib.Core.Path.{_≡_};
-ghost use lib.ListN.{length};
-ghost use Rattle.records.specs.Layout.{reportLength, encodeReport, decodeReport};
+ghost use Rattle.records.specs.Layout.{reportLength, encodeReport, decodeReport, sized};
 ghost use Rattle.records.specs.Write.{Placed};
 ghost use Rattle.record_bytes.specs.reports.Read.{readReport};
 
@@ -19,10 +20,16 @@ pub struct ReportRead {
     pub report: Report,
 }
 
-fn decode_report(bytes: &[u8]) -> Report
-    requires { ⌜ length (now bytes) ≡ reportLength ⌝ }
-    ensures { λ r. ⌜ r ≡ decodeReport (now (bytes .entry)) ⌝ }
+// What the fields say; zeros where the length is another.
+pub fn decode_report(bytes: &[u8]) -> Report
+    ensures { λ r. ⌜ r ≡ decodeReport (sized reportLength (now (bytes .entry))) ⌝ }
 {
+    if bytes.len() != layout::REPORT_LENGTH {
+        return Report {
+            joining: SeatSet::EMPTY,
+            leaving: SeatSet::EMPTY,
+        };
+    }
     Report {
         joining: SeatSet {
             bits: get64(bytes, layout::JOINING),
@@ -37,18 +44,9 @@ pub fn read_report(bytes: &[u8]) -> ReportRead
     ensures { λ r. ⌜ r ≡ readReport (now (bytes .entry)) ⌝ }
 {
     let refusal = check_own(&layout::REPORT_MARK, layout::REPORT_LENGTH, bytes);
-    if refusal != 0 {
-        return ReportRead {
-            refusal,
-            report: Report {
-                joining: SeatSet::EMPTY,
-                leaving: SeatSet::EMPTY,
-            },
-        };
-    }
     ReportRead {
         refusal,
-        report: decode_report(bytes),
+        report: decode_report(accepted(refusal, bytes)),
     }
 }
 

@@ -1,4 +1,5 @@
 // Sync records: the reader of a lone one, total, with the two checks on its own mark and length; and the writer.
+use crate::own_checks::accepted;
 use crate::own_checks::check_own;
 use records::Sync;
 use records::bytes::get32;
@@ -8,8 +9,7 @@ use records::bytes::put32;
 use records::bytes::room;
 use records::layout;
 ghost use mathlib.Core.Path.{_≡_};
-ghost use lib.ListN.{length};
-ghost use Rattle.records.specs.Layout.{syncLength, encodeSync, decodeSync};
+ghost use Rattle.records.specs.Layout.{syncLength, encodeSync, decodeSync, sized};
 ghost use Rattle.records.specs.Write.{Placed};
 ghost use Rattle.record_bytes.specs.syncs.Read.{readSync};
 
@@ -19,10 +19,17 @@ pub struct SyncRead {
     pub sync: Sync,
 }
 
+// What the fields say; zeros where the length is another.
 fn decode_sync(bytes: &[u8]) -> Sync
-    requires { ⌜ length (now bytes) ≡ syncLength ⌝ }
-    ensures { λ r. ⌜ r ≡ decodeSync (now (bytes .entry)) ⌝ }
+    ensures { λ r. ⌜ r ≡ decodeSync (sized syncLength (now (bytes .entry))) ⌝ }
 {
+    if bytes.len() != layout::SYNC_LENGTH {
+        return Sync {
+            seat: 0,
+            start: 0,
+            previous: 0,
+        };
+    }
     Sync {
         seat: bytes[layout::SYNC_SEAT],
         start: get32(bytes, layout::SYNC_START),
@@ -34,19 +41,9 @@ pub fn read_sync(bytes: &[u8]) -> SyncRead
     ensures { λ r. ⌜ r ≡ readSync (now (bytes .entry)) ⌝ }
 {
     let refusal = check_own(&layout::SYNC_MARK, layout::SYNC_LENGTH, bytes);
-    if refusal != 0 {
-        return SyncRead {
-            refusal,
-            sync: Sync {
-                seat: 0,
-                start: 0,
-                previous: 0,
-            },
-        };
-    }
     SyncRead {
         refusal,
-        sync: decode_sync(bytes),
+        sync: decode_sync(accepted(refusal, bytes)),
     }
 }
 

@@ -1,4 +1,5 @@
 // Views: the reader of a lone one, total, with the two checks on its own mark and length; and the writer.
+use crate::own_checks::accepted;
 use crate::own_checks::check_own;
 use records::View;
 use records::bytes::get_sixteen;
@@ -12,8 +13,7 @@ use records::bytes::room;
 use records::layout;
 use seats::SeatSet;
 ghost use mathlib.Core.Path.{_≡_};
-ghost use lib.ListN.{length};
-ghost use Rattle.records.specs.Layout.{viewLength, encodeView, decodeView};
+ghost use Rattle.records.specs.Layout.{viewLength, encodeView, decodeView, sized};
 ghost use Rattle.records.specs.Write.{Placed};
 ghost use Rattle.record_bytes.specs.views.Read.{readView};
 
@@ -23,10 +23,17 @@ pub struct ViewRead {
     pub view: View,
 }
 
+// What the fields say; zeros where the length is another.
 fn decode_view(bytes: &[u8]) -> View
-    requires { ⌜ length (now bytes) ≡ viewLength ⌝ }
-    ensures { λ r. ⌜ r ≡ decodeView (now (bytes .entry)) ⌝ }
+    ensures { λ r. ⌜ r ≡ decodeView (sized viewLength (now (bytes .entry))) ⌝ }
 {
+    if bytes.len() != layout::VIEW_LENGTH {
+        return View {
+            number: 0,
+            members: SeatSet::EMPTY,
+            starts: [0; 16],
+        };
+    }
     View {
         number: get32(bytes, layout::VIEW_NUMBER),
         members: SeatSet {
@@ -40,19 +47,9 @@ pub fn read_view(bytes: &[u8]) -> ViewRead
     ensures { λ r. ⌜ r ≡ readView (now (bytes .entry)) ⌝ }
 {
     let refusal = check_own(&layout::VIEW_MARK, layout::VIEW_LENGTH, bytes);
-    if refusal != 0 {
-        return ViewRead {
-            refusal,
-            view: View {
-                number: 0,
-                members: SeatSet::EMPTY,
-                starts: [0; 16],
-            },
-        };
-    }
     ViewRead {
         refusal,
-        view: decode_view(bytes),
+        view: decode_view(accepted(refusal, bytes)),
     }
 }
 

@@ -1,5 +1,5 @@
--- Laws of checks 4 and 5.
-use mathlib.Core.Path.{_≡_, refl}
+-- For checks: laws of checks 4 and 5.
+use mathlib.Core.Path.{_≡_, refl, sym, ap, _∙_}
 use mathlib.Core.Bool.{Bool, true, false}
 use mathlib.Core.List.{List, [], _∷_}
 use mathlib.Core.Logic.{_⊎_, inl, inr}
@@ -10,12 +10,16 @@ use lib.Dec.{eqb}
 use borrow.Author.Tests.{eqb-true, eq-eqb, ne-eqb, le-ltb}
 use Rattle.laws.specs.Upd.{ifb}
 use Rattle.laws.specs.Big.{Below}
-use Rattle.records.specs.Layout.{valueOf, markOf, formFor, formOf, checkFor, checkOf, checkOwn}
+use Rattle.laws.proofs.Fin.{if-same}
+use Rattle.records.specs.Layout.{valueOf, markOf, formFor, formOf, checkFor, checkOf, checkOwn, accepted, sized}
 use Rattle.records.specs.Layout.{reportMark, proposalMark, reportLength, proposalLength}
+use Rattle.records.specs.Layout.{reportForm, proposalForm, otherForm}
+use Rattle.records.specs.declared.Form.{Form}
+use Rattle.records.specs.declared.RecordKind.{RecordKind}
 use Rattle.records.specs.declared.RecordKind.the-variants as kinds
 
 -- what passes has the length that its mark calls for
-pub check-length : (n : ℕ) (b : List ℕ) → checkFor n b ≡ 0 → length b ≡ n
+check-length : (n : ℕ) (b : List ℕ) → checkFor n b ≡ 0 → length b ≡ n
 unfolding checkFor
 check-length n b h = go (eqb n 0) (eqb (length b) n) refl h
   where
@@ -25,7 +29,7 @@ check-length n b h = go (eqb n 0) (eqb (length b) n) refl h
     go false false e h = absurd (omega arith)
 
 -- no bytes at all have the length 0: the mark is refused first
-pub check-some : (n : ℕ) (b : List ℕ) → checkFor n b ≡ 0 → 0 < n
+check-some : (n : ℕ) (b : List ℕ) → checkFor n b ≡ 0 → 0 < n
 unfolding checkFor
 check-some zero b h = absurd (omega arith)
 check-some (suc n) b h = omega arith
@@ -49,7 +53,8 @@ own-length m n b h =
     check-length n b (rw (eq-eqb (markOf b) (valueOf m) e) at h)
 
 -- bytes of the right length are refused by 4 alone
-pub own-4 : (m : List ℕ) (n : ℕ) (b : List ℕ) → length b ≡ n → 0 < n → checkOwn m n b ≡ ifb (eqb (markOf b) (valueOf m)) 0 4
+pub own-4 : (m : List ℕ) (n : ℕ) (b : List ℕ) → length b ≡ n → 0 < n
+    → checkOwn m n b ≡ ifb (eqb (markOf b) (valueOf m)) 0 4
 unfolding checkOwn checkFor
 own-4 m n b e p = go (eqb (markOf b) (valueOf m))
   where
@@ -78,36 +83,85 @@ own-front x y n b h hx hy hn c =
     let e = own-mark (x ∷ y ∷ []) n b c in
     (omega (arith, h 0, h 1), omega (arith, h 0, h 1))
 
--- what a report's or proposal's own mark calls for
-pub report-form : (b : List ℕ) → checkOwn reportMark reportLength b ≡ 0 → formOf b ≡ record { kind = kinds.Report; length = reportLength }
+-- what the mark of bytes calls for: a report, a proposal, or no record
+pub data Marked (b : List ℕ) : Type 0 where
+  report-mark : markOf b ≡ valueOf reportMark → formOf b ≡ reportForm → Marked b
+  proposal-mark : markOf b ≡ valueOf proposalMark → formOf b ≡ proposalForm → Marked b
+  other-mark : formOf b ≡ otherForm → Marked b
+
+pub marked : (b : List ℕ) → Marked b
 unfolding formOf formFor
-report-form b h = rw (own-mark reportMark reportLength b h)
-
-pub proposal-form : (b : List ℕ) → checkOwn proposalMark proposalLength b ≡ 0
-    → formOf b ≡ record { kind = kinds.Proposal; length = proposalLength }
-unfolding formOf formFor
-proposal-form b h = rw (own-mark proposalMark proposalLength b h)
-
-own-check : (m : List ℕ) (n : ℕ) (b : List ℕ) → checkOwn m n b ≡ 0 → checkFor n b ≡ 0
-unfolding checkOwn
-own-check m n b h = rw (eq-eqb (markOf b) (valueOf m) (own-mark m n b h)) at h
-
--- checks 4 and 5 pass a report, a proposal and nothing else
-pub report-checks : (b : List ℕ) → checkOwn reportMark reportLength b ≡ 0 → checkOf b ≡ 0
-unfolding checkOf
-report-checks b h = rw (report-form b h) (own-check reportMark reportLength b h)
-
-pub proposal-checks : (b : List ℕ) → checkOwn proposalMark proposalLength b ≡ 0 → checkOf b ≡ 0
-unfolding checkOf
-proposal-checks b h = rw (proposal-form b h) (own-check proposalMark proposalLength b h)
-
-pub check-cases : (b : List ℕ) → checkOf b ≡ 0
-    → (checkOwn reportMark reportLength b ≡ 0) ⊎ (checkOwn proposalMark proposalLength b ≡ 0)
-unfolding checkOf checkOwn formOf formFor
-check-cases b h = go (eqb (markOf b) (valueOf reportMark)) (eqb (markOf b) (valueOf proposalMark)) refl refl
+marked b = go (eqb (markOf b) (valueOf reportMark)) (eqb (markOf b) (valueOf proposalMark)) refl refl
   where
-    go : (s t : Bool) → eqb (markOf b) (valueOf reportMark) ≡ s → eqb (markOf b) (valueOf proposalMark) ≡ t
-        → (checkOwn reportMark reportLength b ≡ 0) ⊎ (checkOwn proposalMark proposalLength b ≡ 0)
-    go true t d e = inl (rw d (rw d at h))
-    go false true d e = inr (rw e (rw (d, e) at h))
-    go false false d e = absurd (let z = check-some 0 b (rw (d, e) at h) in omega arith)
+    go : (s t : Bool) → eqb (markOf b) (valueOf reportMark) ≡ s → eqb (markOf b) (valueOf proposalMark) ≡ t → Marked b
+    go true t d e = report-mark (eqb-true _ _ d) (rw d)
+    go false true d e = proposal-mark (eqb-true _ _ e) (rw (d, e))
+    go false false d e = other-mark (rw (d, e))
+
+-- the two checks by the kind of record
+kind-number : RecordKind → ℕ
+kind-number kinds.Report = 0
+kind-number kinds.Proposal = 1
+kind-number kinds.Other = 2
+
+module _ (b : List ℕ) where
+  kind-of : {f : Form} {k : RecordKind} → formOf b ≡ f → formOf b .kind ≡ k → kind-number (f .kind) ≡ kind-number k
+  kind-of e h = ap (λ (f : Form). kind-number (f .kind)) (sym e) ∙ ap kind-number h
+
+  pub by-report : formOf b .kind ≡ kinds.Report → checkOf b ≡ checkOwn reportMark reportLength b
+  unfolding checkOf checkOwn kind-number
+  by-report h = go (marked b)
+    where
+      go : Marked b → checkOf b ≡ checkOwn reportMark reportLength b
+      go (report-mark m e) = rw (e, eq-eqb _ _ m)
+      go (proposal-mark m e) = let z = kind-of e h in absurd (omega arith)
+      go (other-mark e) = let z = kind-of e h in absurd (omega arith)
+
+  pub by-proposal : formOf b .kind ≡ kinds.Proposal → checkOf b ≡ checkOwn proposalMark proposalLength b
+  unfolding checkOf checkOwn kind-number
+  by-proposal h = go (marked b)
+    where
+      go : Marked b → checkOf b ≡ checkOwn proposalMark proposalLength b
+      go (report-mark m e) = let z = kind-of e h in absurd (omega arith)
+      go (proposal-mark m e) = rw (e, eq-eqb _ _ m)
+      go (other-mark e) = let z = kind-of e h in absurd (omega arith)
+
+  pub by-other : formOf b .kind ≡ kinds.Other → checkOf b ≡ 4
+  unfolding checkOf checkFor kind-number
+  by-other h = go (marked b)
+    where
+      go : Marked b → checkOf b ≡ 4
+      go (report-mark m e) = let z = kind-of e h in absurd (omega arith)
+      go (proposal-mark m e) = let z = kind-of e h in absurd (omega arith)
+      go (other-mark e) = rw e
+
+  -- they pass a report, a proposal and nothing else
+  pub report-checks : checkOwn reportMark reportLength b ≡ 0 → checkOf b ≡ 0
+  unfolding formOf formFor
+  report-checks h = by-report (rw (own-mark reportMark reportLength b h)) ∙ h
+
+  pub proposal-checks : checkOwn proposalMark proposalLength b ≡ 0 → checkOf b ≡ 0
+  unfolding formOf formFor
+  proposal-checks h = by-proposal (rw (own-mark proposalMark proposalLength b h)) ∙ h
+
+  pub check-cases : checkOf b ≡ 0
+      → (checkOwn reportMark reportLength b ≡ 0) ⊎ (checkOwn proposalMark proposalLength b ≡ 0)
+  check-cases h = go (marked b)
+    where
+      go : Marked b → (checkOwn reportMark reportLength b ≡ 0) ⊎ (checkOwn proposalMark proposalLength b ≡ 0)
+      go (report-mark m e) = inl (sym (by-report (rw e)) ∙ h)
+      go (proposal-mark m e) = inr (sym (by-proposal (rw e)) ∙ h)
+      go (other-mark e) = let z = by-other (rw e) in absurd (omega arith)
+
+-- bytes of the length that is asked for
+pub sized-all : (n : ℕ) (b : List ℕ) → length b ≡ n → sized n b ≡ b
+sized-all n b e = rw (eq-eqb (length b) n e)
+
+-- what its own checks accept has the length, and of what they refuse there are no bytes
+pub sized-accepted : (m : List ℕ) (n : ℕ) (b : List ℕ) (r : ℕ) → r ≡ checkOwn m n b
+    → sized n (accepted r b) ≡ accepted r b
+sized-accepted m n b r e = go (eqb r 0) refl
+  where
+    go : (t : Bool) → eqb r 0 ≡ t → sized n (ifb t b []) ≡ ifb t b []
+    go true z = sized-all n b (own-length m n b (sym e ∙ eqb-true r 0 z))
+    go false z = if-same (eqb 0 n) []

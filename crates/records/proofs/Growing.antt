@@ -1,4 +1,4 @@
--- Laws of the reading of a run that grows: what more input leaves as it is.
+-- For run: laws of the reading of a run that grows: what more input leaves as it is.
 use mathlib.Core.Path.{_≡_, refl, sym, ap, _∙_}
 use mathlib.Core.Bool.{Bool, true, false}
 use mathlib.Core.List.{List, _++_}
@@ -6,17 +6,12 @@ use Prim.Native.Nat.{ℕ, _≤_, _<_}
 use native.Mathlib.Omega.{arith}
 use lib.ListN.{length, length-append, List·getD-append}
 use lib.Seq.{take-append-le, drop-append-le}
-use lib.Dec.{eqb, ltb}
-use borrow.Author.Tests.{ltb-true, ltb-false, eq-eqb, ne-eqb, lt-ltb, le-ltb}
-use Rattle.records.proofs.CheckLaws.{long-mark}
-use Rattle.records.specs.Layout.{reportMark, proposalMark, valueOf, markOf, formFor, formOf, checkFor, checkOf}
+use lib.Dec.{ltb}
+use borrow.Author.Tests.{ltb-true, ltb-false, eq-eqb, ne-eqb, le-ltb}
+use Rattle.records.proofs.CheckLaws.{long-mark, Marked, report-mark, proposal-mark, other-mark, marked}
+use Rattle.records.specs.Layout.{proposalLength, formFor, formOf, checkFor, checkOf}
 use Rattle.records.specs.Run.{runCheck, runSize, runFirst, runRest}
-use Rattle.records.proofs.RunLaws.{Front, nothing, other, short, whole, front, size-le}
-
--- under two bytes are no mark
-form-none : (w : List ℕ) → length w < 2 → formOf w .length ≡ 0
-unfolding formOf markOf formFor
-form-none w h = rw (lt-ltb (length w) 2 h)
+use Rattle.records.proofs.RunLaws.{Front, nothing, other, short, whole, front, form-none, size-le}
 
 form-long : (w : List ℕ) → 0 < formOf w .length → 2 ≤ length w
 form-long w h = go (ltb (length w) 2) refl
@@ -26,14 +21,13 @@ form-long w h = go (ltb (length w) 2) refl
     go false e = ltb-false (length w) 2 e
 
 -- no mark calls for more
-pub form-most : (w : List ℕ) → formOf w .length ≤ 84
-unfolding formOf formFor
-form-most w = go (eqb (markOf w) (valueOf reportMark)) (eqb (markOf w) (valueOf proposalMark)) refl refl
+form-most : (w : List ℕ) → formOf w .length ≤ proposalLength
+form-most w = go (marked w)
   where
-    go : (s t : Bool) → eqb (markOf w) (valueOf reportMark) ≡ s → eqb (markOf w) (valueOf proposalMark) ≡ t → formOf w .length ≤ 84
-    go true t d e = rw d (omega arith)
-    go false true d e = rw (d, e) (omega arith)
-    go false false d e = rw (d, e) (omega arith)
+    go : Marked w → formOf w .length ≤ proposalLength
+    go (report-mark m e) = rw e (omega arith)
+    go (proposal-mark m e) = rw e (omega arith)
+    go (other-mark e) = rw e (omega arith)
 
 module _ (w f : List ℕ) where
   form-append : 2 ≤ length w → formOf (w ++ f) ≡ formOf w
@@ -52,7 +46,8 @@ module _ (w f : List ℕ) where
       )
 
   -- a whole record in front stays
-  pub whole-stays : 0 < length w → runCheck w ≡ 0 → (runCheck (w ++ f) ≡ 0) × (runFirst (w ++ f) ≡ runFirst w) × (runRest (w ++ f) ≡ runRest w ++ f)
+  pub whole-stays : 0 < length w → runCheck w ≡ 0 → (runCheck (w ++ f) ≡ 0) × (runFirst (w ++ f) ≡ runFirst w)
+      × (runRest (w ++ f) ≡ runRest w ++ f)
   unfolding runFirst runRest
   whole-stays h z = go (front w)
     where
@@ -67,7 +62,8 @@ module _ (w f : List ℕ) where
           let m = size-le w in
           (d, rw k (take-append-le (runSize w) w f m), rw k (drop-append-le (runSize w) w f m))
         where
-          size : Front (w ++ f) → runCheck (w ++ f) ≡ 0 → runSize w ≡ formOf w .length → formOf (w ++ f) ≡ formOf w → runSize (w ++ f) ≡ runSize w
+          size : Front (w ++ f) → runCheck (w ++ f) ≡ 0 → runSize w ≡ formOf w .length → formOf (w ++ f) ≡ formOf w
+              → runSize (w ++ f) ≡ runSize w
           size (nothing l e) d s a = absurd (let g = length-append w f in omega arith)
           size (other l n e) d s a = absurd (omega arith)
           size (short l n e) d s a = absurd (omega arith)
@@ -83,7 +79,11 @@ module _ (w f : List ℕ) where
       go (short l n e) = absurd (omega arith)
       go (whole p l e s) = absurd (omega arith)
       go (other l n e) =
-          rw (ne-eqb (length (w ++ f)) 0 (λ e. let g = length-append w f in omega arith), form-append h, eq-eqb (formOf w .length) 0 n)
+          rw (
+            ne-eqb (length (w ++ f)) 0 (λ e. let g = length-append w f in omega arith),
+            form-append h,
+            eq-eqb (formOf w .length) 0 n,
+          )
 
 -- a whole record has two bytes at least
 pub whole-long : (w : List ℕ) → 0 < length w → runCheck w ≡ 0 → 2 ≤ length w
@@ -106,11 +106,11 @@ other-check w z = go (front w)
     go (whole p l e s) = absurd (omega arith)
     go (other l n e) = rw (eq-eqb (formOf w .length) 0 n)
 
--- it ends with 0, 4 or 5; with 5 under 84 bytes are there
-pub short-ends : (w : List ℕ) → runCheck w ≡ 5 → length w < 84
+-- it ends with 0, 4 or 5; with 5 fewer bytes than a proposal has are there
+pub short-ends : (w : List ℕ) → runCheck w ≡ 5 → length w < proposalLength
 short-ends w z = go (front w)
   where
-    go : Front w → length w < 84
+    go : Front w → length w < proposalLength
     go (nothing l e) = omega arith
     go (short l n e) = let m = form-most w in omega arith
     go (whole p l e s) = absurd (omega arith)

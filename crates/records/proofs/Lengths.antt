@@ -1,4 +1,4 @@
--- The lengths of the five records.
+-- For layout: the lengths of the five records.
 use mathlib.Core.Path.{_≡_, refl}
 use native.Mathlib.Omega.{arith}
 use lib.ListN.{length}

@@ -1,10 +1,12 @@
--- The laws of the layout, of checks 4 and 5 and of what a writer leaves.
-pub mod CheckLaws
+-- layout
 pub mod Lengths
-pub mod OwnChecks
 pub mod RoundTrip
-pub mod Write
+pub mod Placing
+-- checks
+pub mod CheckLaws
+pub mod OwnChecks
+-- numbers
 pub mod NumberLaws
--- The laws of the reading of a run.
+-- run
 pub mod RunLaws
 pub mod Growing

@@ -1,4 +1,4 @@
--- Checks 8 and 10 of sixteen numbers, passed.
+-- For numbers: checks 8 and 10 of sixteen numbers, passed.
 use mathlib.Core.Path.{_≡_, refl}
 use mathlib.Core.Bool.{Bool, true, false, not, _&&_}
 use mathlib.Core.List.{List}
@@ -34,8 +34,10 @@ module _ (numbers : List ℕ) where
   zero-in false n h = simp as-facts (h refl)
 
   module _ (members : ℕ) where
-    pub stray-out : strayNumber members numbers ≡ false → (o : ℕ) → o < 16 → serves members o ≡ false → getD numbers o 0 ≡ 0
+    pub stray-out : strayNumber members numbers ≡ false → (o : ℕ) → o < 16 → serves members o ≡ false
+        → getD numbers o 0 ≡ 0
     stray-out e o l = zero-out (serves members o) (getD numbers o 0) (anyb-none 16 _ e o l)
 
-    pub stray-in : ((o : ℕ) → o < 16 → serves members o ≡ false → getD numbers o 0 ≡ 0) → strayNumber members numbers ≡ false
+    pub stray-in : ((o : ℕ) → o < 16 → serves members o ≡ false → getD numbers o 0 ≡ 0)
+        → strayNumber members numbers ≡ false
     stray-in h = none-anyb 16 _ (λ o l. zero-in (serves members o) (getD numbers o 0) (h o l))

@@ -1,5 +1,6 @@
--- Checks 4 and 5 where either of two marks passes, by those on a record's own mark and length: one mark first, then the other.
-use mathlib.Core.Path.{_≡_, refl, _∙_}
+-- For checks: checks 4 and 5 where either of two marks passes, by those on a record's own mark and length: one mark
+-- first, then the other.
+use mathlib.Core.Path.{_≡_, refl}
 use mathlib.Core.Bool.{Bool, true, false}
 use mathlib.Core.List.{List}
 use Prim.Native.Nat.{ℕ, _<_}
@@ -9,8 +10,7 @@ use lib.Dec.{eqb}
 use borrow.Author.Tests.{ne-eqb}
 use Rattle.laws.proofs.Tab.{length-tab}
 use Rattle.laws.specs.Upd.{ifb}
-use Rattle.records.specs.Layout.{valueOf, markOf, formFor, formOf, checkFor, checkOf, checkEither, checkOwn, decodeProposal}
-use Rattle.records.specs.Layout.{reportMark, proposalMark, reportLength, proposalLength}
+use Rattle.records.specs.Layout.{valueOf, markOf, checkFor, checkEither, checkOwn, decodeProposal}
 
 -- a mark that a check passes is not refused by 4
 passed-mark : (t : Bool) → _≡_ {A = ℕ} (ifb t 0 5) 4 → ⊥
@@ -32,30 +32,13 @@ module _ (m : List ℕ) (j : ℕ) (n : List ℕ) (k : ℕ) (b : List ℕ) where
   unfolding checkEither checkOwn checkFor
   by-second l h = go (eqb (markOf b) (valueOf m)) (eqb (markOf b) (valueOf n)) refl refl
     where
-      go : (s t : Bool) → eqb (markOf b) (valueOf m) ≡ s → eqb (markOf b) (valueOf n) ≡ t → checkEither m j n k b ≡ checkOwn n k b
+      go : (s t : Bool) → eqb (markOf b) (valueOf m) ≡ s → eqb (markOf b) (valueOf n) ≡ t
+          → checkEither m j n k b ≡ checkOwn n k b
       go true t d e = absurd (passed-mark (eqb (length b) j) (rw (d, ne-eqb j 0 (λ z. omega arith)) at h))
       go false true d e = rw (d, e)
       go false false d e = rw (d, e)
 
-module _ (b : List ℕ) where
-  -- the two checks on a lone report or proposal
-  either-of-two : checkOf b ≡ checkEither reportMark reportLength proposalMark proposalLength b
-  unfolding checkOf checkEither formOf formFor
-  either-of-two = go (eqb (markOf b) (valueOf reportMark)) (eqb (markOf b) (valueOf proposalMark)) refl refl
-    where
-      go : (s t : Bool) → eqb (markOf b) (valueOf reportMark) ≡ s → eqb (markOf b) (valueOf proposalMark) ≡ t
-          → checkOf b ≡ checkEither reportMark reportLength proposalMark proposalLength b
-      go true t d e = rw d
-      go false true d e = rw (d, e)
-      go false false d e = rw (d, e)
-
-  pub by-report : (checkOwn reportMark reportLength b ≡ 4 → ⊥) → checkOf b ≡ checkOwn reportMark reportLength b
-  by-report h = either-of-two ∙ by-first reportMark reportLength proposalMark proposalLength b h
-
-  pub by-proposal : checkOwn reportMark reportLength b ≡ 4 → checkOf b ≡ checkOwn proposalMark proposalLength b
-  by-proposal h = either-of-two ∙ by-second reportMark reportLength proposalMark proposalLength b (omega arith) h
-
-  -- any bytes have sixteen used numbers
-  pub used-sixteen : length (decodeProposal b .used) ≡ 16
-  unfolding decodeProposal
-  used-sixteen = length-tab 16 _
+-- any bytes have sixteen used numbers
+pub used-sixteen : (b : List ℕ) → length (decodeProposal b .used) ≡ 16
+unfolding decodeProposal
+used-sixteen b = length-tab 16 _

@@ -1,7 +1,8 @@
--- Each record comes back the same both ways: a value that fits its fields by its bytes, bytes of the right mark and length by their value.
+-- For layout: each record comes back the same both ways: a value that fits its fields by its bytes, bytes of the right
+-- mark and length by their value.
 use mathlib.Core.Path.{_≡_, refl, sym, _∙_}
 use mathlib.Core.List.{List, [], _∷_, _++_}
-use Prim.Native.Nat.{ℕ, suc, _+_, _*_, _<_, _^_}
+use Prim.Native.Nat.{ℕ, suc, _+_, _-_, _*_, _<_, _^_}
 use native.Mathlib.Omega.{arith}
 use lib.ListN.{length, getD}
 use Rattle.laws.specs.Big.{bytes4, bytes8, bytesAll, big4, Below}
@@ -16,8 +17,14 @@ use Rattle.records.specs.declared.Notice.{Notice}
 use Rattle.records.specs.declared.View.{View}
 use Rattle.records.specs.declared.Sync.{Sync}
 use Rattle.records.specs.Layout.{encodeReport, encodeProposal, encodeNotice, encodeView, encodeSync, sixteenAt}
-use Rattle.records.specs.Layout.{decodeReport, decodeProposal, decodeNotice, decodeView, decodeSync, checkOf, checkOwn}
-use Rattle.records.specs.Layout.{reportMark, proposalMark, noticeMark, viewMark, syncMark, reportLength, proposalLength, noticeLength, viewLength, syncLength}
+use Rattle.records.specs.Layout.{decodeReport, decodeProposal, decodeNotice, decodeView, decodeSync}
+use Rattle.records.specs.Layout.{checkOf, checkOwn}
+use Rattle.records.specs.Layout.{reportMark, proposalMark, noticeMark, viewMark, syncMark}
+use Rattle.records.specs.Layout.{reportLength, proposalLength, noticeLength, viewLength, syncLength}
+use Rattle.records.specs.Layout.{joiningPlace, leavingPlace, senderPlace, kindPlace, proposalMembersPlace}
+use Rattle.records.specs.Layout.{proposalStartPlace, proposalNumberPlace, usedPlace, noticeStartPlace}
+use Rattle.records.specs.Layout.{noticeMembersPlace, viewNumberPlace, viewMembersPlace, startsPlace}
+use Rattle.records.specs.Layout.{syncSeatPlace, syncStartPlace, syncPreviousPlace}
 use Rattle.records.proofs.CheckLaws.{own-front, own-length, own-passes, report-checks, proposal-checks}
 use Rattle.records.proofs.Lengths.{report-length, proposal-length, notice-length, view-length, sync-length}
 use Rattle.records.specs.Fits.{FitsSixteen, FitsReport, FitsProposal, FitsNotice, FitsView, FitsSync}
@@ -58,7 +65,9 @@ proposal-back p f =
       digits8 (p .members .bits) (f .members),
       digits4 (p .start) (f .start),
       digits4 (p .number) (f .number),
-      sixteen-back (proposalMark ++ (p .sender ∷ p .kind ∷ []) ++ bytes8 (p .members .bits) ++ bytes4 (p .start) ++ bytes4 (p .number))
+      sixteen-back
+          (proposalMark ++ (p .sender ∷ p .kind ∷ []) ++ bytes8 (p .members .bits)
+          ++ bytes4 (p .start) ++ bytes4 (p .number))
           (p .used) (f .used),
     )
 
@@ -102,30 +111,38 @@ module _ (b : List ℕ) (bytes : Below 256 b) where
 
   pub report-again : checkOwn reportMark reportLength b ≡ 0 → encodeReport (decodeReport b) ≡ b
   unfolding encodeReport decodeReport tab
-  report-again c = whole _ _ 16 _ (omega arith) (omega arith) c (both (big8-back b bytes 2) (big8-back b bytes 10))
+  report-again c =
+      whole _ _ (reportLength - 2) _ (omega arith) (omega arith) c
+      (both (big8-back b bytes joiningPlace) (big8-back b bytes leavingPlace))
 
   pub notice-again : checkOwn noticeMark noticeLength b ≡ 0 → encodeNotice (decodeNotice b) ≡ b
   unfolding encodeNotice decodeNotice tab
-  notice-again c = whole _ _ 12 _ (omega arith) (omega arith) c (both (big4-back b bytes 2) (big8-back b bytes 6))
+  notice-again c =
+      whole _ _ (noticeLength - 2) _ (omega arith) (omega arith) c
+      (both (big4-back b bytes noticeStartPlace) (big8-back b bytes noticeMembersPlace))
 
   pub view-again : checkOwn viewMark viewLength b ≡ 0 → encodeView (decodeView b) ≡ b
   unfolding encodeView decodeView tab
   view-again c =
-      whole _ _ 76 _ (omega arith) (omega arith) c
-      (both (big4-back b bytes 2) (both (big8-back b bytes 6) (bytes-back 16 14 b bytes)))
+      whole _ _ (viewLength - 2) _ (omega arith) (omega arith) c
+      (both (big4-back b bytes viewNumberPlace)
+      (both (big8-back b bytes viewMembersPlace) (bytes-back 16 startsPlace b bytes)))
 
   pub proposal-again : checkOwn proposalMark proposalLength b ≡ 0 → encodeProposal (decodeProposal b) ≡ b
   unfolding encodeProposal decodeProposal tab
   proposal-again c =
-      whole _ _ 82 _ (omega arith) (omega arith) c
-      (both {a = getD b 2 0 ∷ getD b 3 0 ∷ []} refl
-      (both (big8-back b bytes 4) (both (big4-back b bytes 12) (both (big4-back b bytes 16) (bytes-back 16 20 b bytes)))))
+      whole _ _ (proposalLength - 2) _ (omega arith) (omega arith) c
+      (both {a = getD b senderPlace 0 ∷ getD b kindPlace 0 ∷ []} refl
+      (both (big8-back b bytes proposalMembersPlace)
+      (both (big4-back b bytes proposalStartPlace)
+      (both (big4-back b bytes proposalNumberPlace) (bytes-back 16 usedPlace b bytes)))))
 
   pub sync-again : checkOwn syncMark syncLength b ≡ 0 → encodeSync (decodeSync b) ≡ b
   unfolding encodeSync decodeSync tab
   sync-again c =
-      whole _ _ 9 _ (omega arith) (omega arith) c
-      (both {a = getD b 2 0 ∷ []} refl (both (big4-back b bytes 3) (big4-back b bytes 7)))
+      whole _ _ (syncLength - 2) _ (omega arith) (omega arith) c
+      (both {a = getD b syncSeatPlace 0 ∷ []} refl
+      (both (big4-back b bytes syncStartPlace) (big4-back b bytes syncPreviousPlace)))
 
   -- what is read from bytes fits
   sixteen-fits : (at : ℕ) → FitsSixteen (sixteenAt b at)
@@ -136,27 +153,35 @@ module _ (b : List ℕ) (bytes : Below 256 b) where
 
   pub report-fits : FitsReport (decodeReport b)
   unfolding decodeReport
-  report-fits = record { joining = big8-below b bytes 2; leaving = big8-below b bytes 10 }
+  report-fits = record { joining = big8-below b bytes joiningPlace; leaving = big8-below b bytes leavingPlace }
 
   pub proposal-fits : FitsProposal (decodeProposal b)
   unfolding decodeProposal
   proposal-fits = record {
-    sender = bytes 2;
-    kind = bytes 3;
-    members = big8-below b bytes 4;
-    start = big4-below b bytes 12;
-    number = big4-below b bytes 16;
-    used = sixteen-fits 20;
+    sender = bytes senderPlace;
+    kind = bytes kindPlace;
+    members = big8-below b bytes proposalMembersPlace;
+    start = big4-below b bytes proposalStartPlace;
+    number = big4-below b bytes proposalNumberPlace;
+    used = sixteen-fits usedPlace;
   }
 
   pub notice-fits : FitsNotice (decodeNotice b)
   unfolding decodeNotice
-  notice-fits = record { start = big4-below b bytes 2; members = big8-below b bytes 6 }
+  notice-fits = record { start = big4-below b bytes noticeStartPlace; members = big8-below b bytes noticeMembersPlace }
 
   pub view-fits : FitsView (decodeView b)
   unfolding decodeView
-  view-fits = record { number = big4-below b bytes 2; members = big8-below b bytes 6; starts = sixteen-fits 14 }
+  view-fits = record {
+    number = big4-below b bytes viewNumberPlace;
+    members = big8-below b bytes viewMembersPlace;
+    starts = sixteen-fits startsPlace;
+  }
 
   pub sync-fits : FitsSync (decodeSync b)
   unfolding decodeSync
-  sync-fits = record { seat = bytes 2; start = big4-below b bytes 3; previous = big4-below b bytes 7 }
+  sync-fits = record {
+    seat = bytes syncSeatPlace;
+    start = big4-below b bytes syncStartPlace;
+    previous = big4-below b bytes syncPreviousPlace;
+  }

@@ -1,4 +1,4 @@
--- Laws of the reading of a run.
+-- For run: laws of the reading of a run.
 use mathlib.Core.Path.{_≡_, refl, sym, ap, _∙_}
 use mathlib.Core.Bool.{Bool, true, false}
 use mathlib.Core.List.{List, [], _∷_, _++_, append-assoc, flatten}
@@ -8,12 +8,15 @@ use native.Mathlib.Omega.{arith}
 use native.Mathlib.Nat.{pos-of-ne-zero}
 use lib.ListN.{length, take, take-append-drop, length-drop}
 use lib.Seq.{getD-take, length-take-le}
-use lib.Dec.{eqb, ltb}
-use borrow.Author.Tests.{eqb-true, eqb-false, ltb-true, ltb-false, ne-eqb}
+use lib.Dec.{eqb, ltb, leb}
+use borrow.Author.Tests.{eqb-true, eqb-false, ltb-true, ltb-false, ne-eqb, lt-ltb, le-leb, lt-leb}
+use Rattle.laws.proofs.Fin.{if-same}
 use Rattle.laws.specs.Lists.{none, more}
 use Rattle.records.proofs.CheckLaws.{long-mark, check-passes}
-use Rattle.records.specs.Layout.{reportMark, proposalMark, valueOf, markOf, formFor, formOf, checkFor, checkOf}
-use Rattle.records.specs.Run.{runCheck, runSize, runFirst, runRest, readingIn, readingOf, Ends, WholeReading}
+use Rattle.records.proofs.CheckLaws.{Marked, report-mark, proposal-mark, other-mark, marked}
+use Rattle.records.specs.Layout.{markOf, formFor, formOf, checkFor, checkOf}
+use Rattle.records.specs.Run.{runCheck, fitting, runSize, runFirst, runRest}
+use Rattle.records.specs.Run.{readingIn, readingOf, Ends, WholeReading}
 
 -- what stands in front of a run: nothing, another mark, too few bytes, or a whole record
 pub data Front (w : List ℕ) : Type 0 where
@@ -32,8 +35,15 @@ front w = go (eqb (length w) 0) (eqb n 0) (ltb (length w) n) refl refl refl
     go : (r s t : Bool) → eqb (length w) 0 ≡ r → eqb n 0 ≡ s → ltb (length w) n ≡ t → Front w
     go true s t d e f = nothing (eqb-true (length w) 0 d) (rw d)
     go false true t d e f = other (pos-of-ne-zero (eqb-false (length w) 0 d)) (eqb-true n 0 e) (rw (d, e))
-    go false false true d e f = short (pos-of-ne-zero (eqb-false (length w) 0 d)) (ltb-true (length w) n f) (rw (d, e, f))
-    go false false false d e f = whole (pos-of-ne-zero (eqb-false n 0 e)) (ltb-false (length w) n f) (rw (d, e, f)) (rw (d, e, f))
+    go false false true d e f =
+        short (pos-of-ne-zero (eqb-false (length w) 0 d)) (ltb-true (length w) n f) (rw (d, e, f))
+    go false false false d e f =
+        whole (pos-of-ne-zero (eqb-false n 0 e)) (ltb-false (length w) n f) (rw (d, e, f)) (rw (d, e, f))
+
+-- under two bytes are no mark
+pub form-none : (w : List ℕ) → length w < 2 → formOf w .length ≡ 0
+unfolding formOf markOf formFor
+form-none w h = rw (lt-ltb (length w) 2 h)
 
 empty : (b : List ℕ) → length b ≡ 0 → b ≡ []
 empty [] h = refl
@@ -60,6 +70,19 @@ size-le b = go (front b)
     go (short l n e) = omega (arith, refused-size b (omega arith))
     go (whole p l e s) = omega arith
 
+-- it is the mark's length where the run has so many bytes
+pub size-fitting : (b : List ℕ) → fitting (formOf b .length) b ≡ runSize b
+size-fitting b = go (front b)
+  where
+    none-fits : formOf b .length ≡ 0 → runSize b ≡ 0 → fitting (formOf b .length) b ≡ runSize b
+    none-fits n s = rw (n, s) (if-same (leb 0 (length b)) 0)
+
+    go : Front b → fitting (formOf b .length) b ≡ runSize b
+    go (nothing l e) = none-fits (form-none b (omega arith)) (empty-size b l)
+    go (other l n e) = none-fits n (refused-size b (omega arith))
+    go (short l n e) = rw (lt-leb (formOf b .length) (length b) n) (sym (refused-size b (omega arith)))
+    go (whole p l e s) = rw (le-leb (formOf b .length) (length b) l) (sym s)
+
 -- the record in front and what follows it are the input
 pub first-rest : (b : List ℕ) → runFirst b ++ runRest b ≡ b
 unfolding runFirst runRest
@@ -71,13 +94,12 @@ rest-shorter b h = let l = size-le b in omega (arith, length-drop (runSize b) b)
 
 -- a mark calls for no less than itself
 form-least : (b : List ℕ) → 0 < formOf b .length → 2 ≤ formOf b .length
-unfolding formOf formFor
-form-least b h = go (eqb (markOf b) (valueOf reportMark)) (eqb (markOf b) (valueOf proposalMark)) refl refl
+form-least b h = go (marked b)
   where
-    go : (s t : Bool) → eqb (markOf b) (valueOf reportMark) ≡ s → eqb (markOf b) (valueOf proposalMark) ≡ t → 2 ≤ formOf b .length
-    go true t d e = rw d (omega arith)
-    go false true d e = rw (d, e) (omega arith)
-    go false false d e = absurd (let z = rw (d, e) at h in omega arith)
+    go : Marked b → 2 ≤ formOf b .length
+    go (report-mark m e) = rw e (omega arith)
+    go (proposal-mark m e) = rw e (omega arith)
+    go (other-mark e) = absurd (let z = rw e at h in omega arith)
 
 -- the front of a run has the run's mark
 mark-take : (n : ℕ) (b : List ℕ) → 2 ≤ n → n ≤ length b → markOf (take n b) ≡ markOf b
@@ -87,7 +109,7 @@ mark-take n b h l =
     ∙ rw (getD-take n b 0 0 (omega arith), getD-take n b 1 0 (omega arith)) (sym (long-mark b (omega arith)))
 
 -- what is handed back as a record passes checks 4 and 5 by itself
-pub first-passes : (b : List ℕ) → 0 < runSize b → checkOf (runFirst b) ≡ 0
+first-passes : (b : List ℕ) → 0 < runSize b → checkOf (runFirst b) ≡ 0
 unfolding runFirst checkOf formOf
 first-passes b h = go (front b)
   where
@@ -119,11 +141,20 @@ ends b h = record { none = h; number = go (front b) }
 
 reads-in : (n : ℕ) (b : List ℕ) → length b ≤ n → WholeReading b (readingIn n b)
 unfolding readingIn flatten
-reads-in zero b h = let l = size-le b in record { input = refl; records = none; ends = ends b (omega arith); number = refl }
-reads-in (suc n) b h = go (eqb (runSize b) 0) refl (λ p. reads-in n (runRest b) (let l = rest-shorter b p in omega arith))
+reads-in zero b h =
+    let l = size-le b in
+    record { input = refl; records = none; ends = ends b (omega arith); number = refl }
+reads-in (suc n) b h =
+    go (eqb (runSize b) 0) refl (λ p. reads-in n (runRest b) (let l = rest-shorter b p in omega arith))
   where
-    go : (t : Bool) → eqb (runSize b) 0 ≡ t → (0 < runSize b → WholeReading (runRest b) (readingIn n (runRest b))) → WholeReading b (readingIn (suc n) b)
-    go true e ih = rw e (record { input = refl; records = none; ends = ends b (eqb-true (runSize b) 0 e); number = refl })
+    go : (t : Bool) → eqb (runSize b) 0 ≡ t → (0 < runSize b → WholeReading (runRest b) (readingIn n (runRest b)))
+        → WholeReading b (readingIn (suc n) b)
+    go true e ih = rw e (record {
+      input = refl;
+      records = none;
+      ends = ends b (eqb-true (runSize b) 0 e);
+      number = refl;
+    })
     go false e ih =
         let p = pos-of-ne-zero (eqb-false (runSize b) 0 e) in
         let r = ih p in

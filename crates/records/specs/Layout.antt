@@ -1,4 +1,5 @@
--- The layout of the five records, and checks 4 and 5. Numbers are stored most significant byte first; a record starts with its two-byte mark.
+-- The layout of the five records, and checks 4 and 5. Numbers are stored most significant byte first; a record starts
+-- with its two-byte mark.
 use mathlib.Core.List.{List, [], _∷_, _++_}
 use Prim.Native.Nat.{ℕ, _+_, _*_}
 use lib.ListN.{length, getD}
@@ -31,17 +32,70 @@ viewMark = 0x56 ∷ 0x57 ∷ []
 abbrev pub syncMark : List ℕ
 syncMark = 0x53 ∷ 0x59 ∷ []
 
+-- report, 18 bytes: 2-9 joining, 10-17 leaving
+abbrev pub joiningPlace : ℕ
+joiningPlace = 2
+
+abbrev pub leavingPlace : ℕ
+leavingPlace = 10
+
 abbrev pub reportLength : ℕ
 reportLength = 18
+
+-- proposal, 84 bytes: 2 sender, 3 kind, 4-11 members, 12-15 start number, 16-19 proposal number, 20-83 used numbers
+abbrev pub senderPlace : ℕ
+senderPlace = 2
+
+abbrev pub kindPlace : ℕ
+kindPlace = 3
+
+abbrev pub proposalMembersPlace : ℕ
+proposalMembersPlace = 4
+
+abbrev pub proposalStartPlace : ℕ
+proposalStartPlace = 12
+
+abbrev pub proposalNumberPlace : ℕ
+proposalNumberPlace = 16
+
+abbrev pub usedPlace : ℕ
+usedPlace = 20
 
 abbrev pub proposalLength : ℕ
 proposalLength = 84
 
+-- start notice, 14 bytes: 2-5 start number, 6-13 suggested members
+abbrev pub noticeStartPlace : ℕ
+noticeStartPlace = 2
+
+abbrev pub noticeMembersPlace : ℕ
+noticeMembersPlace = 6
+
 abbrev pub noticeLength : ℕ
 noticeLength = 14
 
+-- view, 78 bytes: 2-5 view number, 6-13 members, 14-77 sixteen start numbers
+abbrev pub viewNumberPlace : ℕ
+viewNumberPlace = 2
+
+abbrev pub viewMembersPlace : ℕ
+viewMembersPlace = 6
+
+abbrev pub startsPlace : ℕ
+startsPlace = 14
+
 abbrev pub viewLength : ℕ
 viewLength = 78
+
+-- sync record, 11 bytes: 2 seat, 3-6 start number, 7-10 previous view number
+abbrev pub syncSeatPlace : ℕ
+syncSeatPlace = 2
+
+abbrev pub syncStartPlace : ℕ
+syncStartPlace = 3
+
+abbrev pub syncPreviousPlace : ℕ
+syncPreviousPlace = 7
 
 abbrev pub syncLength : ℕ
 syncLength = 11
@@ -54,14 +108,12 @@ seatsAt b at = record { bits = big8 b at }
 abbrev pub sixteenAt : List ℕ → ℕ → List ℕ
 sixteenAt b at = tab 16 (λ o. big4 b (at + 4 * o))
 
--- report: 2-9 joining, 10-17 leaving
 unfoldable pub encodeReport : Report → List ℕ
 encodeReport r = reportMark ++ bytes8 (r .joining .bits) ++ bytes8 (r .leaving .bits)
 
 unfoldable pub decodeReport : List ℕ → Report
-decodeReport b = record { joining = seatsAt b 2; leaving = seatsAt b 10 }
+decodeReport b = record { joining = seatsAt b joiningPlace; leaving = seatsAt b leavingPlace }
 
--- proposal: 2 sender, 3 kind, 4-11 members, 12-15 start number, 16-19 proposal number, 20-83 sixteen used numbers
 unfoldable pub encodeProposal : Proposal → List ℕ
 encodeProposal p =
     proposalMark ++ (p .sender ∷ p .kind ∷ []) ++ bytes8 (p .members .bits) ++ bytes4 (p .start) ++ bytes4 (p .number)
@@ -70,34 +122,33 @@ encodeProposal p =
 unfoldable pub decodeProposal : List ℕ → Proposal
 decodeProposal b =
     record {
-      sender = getD b 2 0;
-      kind = getD b 3 0;
-      members = seatsAt b 4;
-      start = big4 b 12;
-      number = big4 b 16;
-      used = sixteenAt b 20;
+      sender = getD b senderPlace 0;
+      kind = getD b kindPlace 0;
+      members = seatsAt b proposalMembersPlace;
+      start = big4 b proposalStartPlace;
+      number = big4 b proposalNumberPlace;
+      used = sixteenAt b usedPlace;
     }
 
--- start notice: 2-5 start number, 6-13 suggested members
 unfoldable pub encodeNotice : Notice → List ℕ
 encodeNotice n = noticeMark ++ bytes4 (n .start) ++ bytes8 (n .members .bits)
 
 unfoldable pub decodeNotice : List ℕ → Notice
-decodeNotice b = record { start = big4 b 2; members = seatsAt b 6 }
+decodeNotice b = record { start = big4 b noticeStartPlace; members = seatsAt b noticeMembersPlace }
 
--- view: 2-5 view number, 6-13 members, 14-77 sixteen start numbers
 unfoldable pub encodeView : View → List ℕ
 encodeView v = viewMark ++ bytes4 (v .number) ++ bytes8 (v .members .bits) ++ bytesAll (v .starts)
 
 unfoldable pub decodeView : List ℕ → View
-decodeView b = record { number = big4 b 2; members = seatsAt b 6; starts = sixteenAt b 14 }
+decodeView b =
+    record { number = big4 b viewNumberPlace; members = seatsAt b viewMembersPlace; starts = sixteenAt b startsPlace }
 
--- sync: 2 seat, 3-6 start number, 7-10 previous view number
 unfoldable pub encodeSync : Sync → List ℕ
 encodeSync r = syncMark ++ (r .seat ∷ []) ++ bytes4 (r .start) ++ bytes4 (r .previous)
 
 unfoldable pub decodeSync : List ℕ → Sync
-decodeSync b = record { seat = getD b 2 0; start = big4 b 3; previous = big4 b 7 }
+decodeSync b =
+    record { seat = getD b syncSeatPlace 0; start = big4 b syncStartPlace; previous = big4 b syncPreviousPlace }
 
 -- the two bytes of a mark as one number
 abbrev pub valueOf : List ℕ → ℕ
@@ -108,11 +159,17 @@ unfoldable pub markOf : List ℕ → ℕ
 markOf b = ifb (ltb (length b) 2) 0 (valueOf b)
 
 -- the kind and length of the report or proposal with a mark; length 0 where the mark is neither's
+abbrev pub reportForm : Form
+reportForm = record { kind = kinds.Report; length = reportLength }
+
+abbrev pub proposalForm : Form
+proposalForm = record { kind = kinds.Proposal; length = proposalLength }
+
+abbrev pub otherForm : Form
+otherForm = record { kind = kinds.Other; length = 0 }
+
 unfoldable pub formFor : ℕ → Form
-formFor m =
-    ifb (eqb m (valueOf reportMark)) (record { kind = kinds.Report; length = reportLength })
-    (ifb (eqb m (valueOf proposalMark)) (record { kind = kinds.Proposal; length = proposalLength })
-    (record { kind = kinds.Other; length = 0 }))
+formFor m = ifb (eqb m (valueOf reportMark)) reportForm (ifb (eqb m (valueOf proposalMark)) proposalForm otherForm)
 
 unfoldable pub formOf : List ℕ → Form
 formOf b = formFor (markOf b)
@@ -136,3 +193,7 @@ checkOwn m n b = checkFor (ifb (eqb (markOf b) (valueOf m)) n 0) b
 -- the bytes of an accepted record; none of a refused one
 abbrev pub accepted : ℕ → List ℕ → List ℕ
 accepted refusal b = ifb (eqb refusal 0) b []
+
+-- bytes of n in number; none where they are more or fewer
+abbrev pub sized : ℕ → List ℕ → List ℕ
+sized n b = ifb (eqb (length b) n) b []

@@ -1,5 +1,5 @@
-pub mod Fits
 pub mod Layout
+pub mod Fits
 pub mod Write
 pub mod Numbers
 pub mod Run

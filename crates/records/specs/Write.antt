@@ -1,4 +1,5 @@
--- What a writer does with the bytes lent to it: the record stands at its place, or, where it has no room there, nothing is written.
+-- What a writer does with the bytes lent to it: the record stands at its place, or, where it has no room there,
+-- nothing is written.
 use mathlib.Core.Path.{_≡_}
 use mathlib.Core.List.{List}
 use Prim.Native.Nat.{ℕ, _+_}

@@ -1,4 +1,4 @@
-// Numbers as bytes, most significant byte first: inner to the layer of records.
+// Numbers as bytes, most significant byte first; inner to the layer of records: records and record_bytes.
 ghost use mathlib.Core.Path.{_≡_};
 ghost use mathlib.Core.List.{List, [], _∷_};
 ghost use Prim.Native.Nat.{ℕ, _+_, _-_, _*_, _<_, _≤_};
@@ -72,7 +72,8 @@ pub fn room(len: usize, at: usize) -> usize
 
 pub fn put_mark(out: &mut [u8], at: usize, mark: &[u8; 2])
     requires { ⌜ at + 2 ≤ length (now out) ⌝ }
-    ensures { λ _. ⌜ now (out .exit) ≡ sets (now (out .entry)) at (getD (now (mark .entry)) 0 0 ∷ getD (now (mark .entry)) 1 0 ∷ []) ⌝ }
+    ensures { λ _. ⌜ now (out .exit) ≡ sets (now (out .entry)) at
+        (getD (now (mark .entry)) 0 0 ∷ getD (now (mark .entry)) 1 0 ∷ []) ⌝ }
 {
     out[at] = mark[0];
     out[at + 1] = mark[1];

@@ -35,8 +35,8 @@ fn form_for(value: u16) -> Form
     }
 }
 
-// The kind of record that bytes start with, by their mark, and the length of that kind; length 0 where it is neither a report nor
-// a proposal.
+// The kind of record that bytes start with, by their mark, and the length of that kind; length 0 where it is neither a
+// report nor a proposal.
 pub fn form_of(bytes: &[u8]) -> Form
     ensures { λ r. ⌜ r ≡ formOf (now (bytes .entry)) ⌝ }
 {
@@ -44,7 +44,7 @@ pub fn form_of(bytes: &[u8]) -> Form
 }
 
 // Checks 4 and 5 where the mark calls for `n` bytes, 0 where it is refused.
-fn check_for(n: usize, bytes: &[u8]) -> u8
+pub fn check_for(n: usize, bytes: &[u8]) -> u8
     ensures { λ r. ⌜ r ≡ checkFor n (now (bytes .entry)) ⌝ }
 {
     if n == 0 {

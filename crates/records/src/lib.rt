@@ -1,14 +1,24 @@
-// The five records, as values, and one layout for reading and writing them. The kind of a proposal stays the raw byte (1 fast,
-// 2 slow), so that every byte string of the right length and mark is a record.
+// The five records, as values, and one layout for reading and writing them. The kind of a proposal stays the raw byte
+// (1 fast, 2 slow), so that every byte string of the right length and mark is a record.
 use seats::SeatSet;
 
-pub mod bytes;
-mod checks;
+// Each mark, length and place.
 pub mod layout;
+
+// Numbers as bytes, read and written.
+pub mod bytes;
+
+// Checks 4 and 5, and the kind of record by its mark.
+mod checks;
+
+// L, and the checks of sixteen numbers.
 pub mod numbers;
+
+// The reading of a run of records.
 pub mod run;
 
 pub use checks::check;
+pub use checks::check_for;
 pub use checks::form_of;
 pub use checks::mark_of;
 
@@ -44,7 +54,8 @@ pub struct View {
     pub starts: [u32; 16],
 }
 
-// What a desk sends the other desks after a start notice: its seat, the notice's start number, the number of the view that is ending.
+// What a desk sends the other desks after a start notice: its seat, the notice's start number, the number of the view
+// that is ending.
 pub struct Sync {
     pub seat: u8,
     pub start: u32,

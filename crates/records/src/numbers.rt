@@ -1,4 +1,5 @@
-// L, and the two checks that the sixteen numbers of a record meet wherever it is read: a proposal's used numbers, a view's start numbers.
+// L, and the two checks that the sixteen numbers of a record meet wherever it is read: a proposal's used numbers, a
+// view's start numbers.
 use seats::SeatSet;
 use seats::offices::serves;
 ghost use mathlib.Core.Path.{_≡_};

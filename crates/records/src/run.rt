@@ -3,7 +3,7 @@ use crate::form_of;
 ghost use mathlib.Core.Path.{_≡_};
 ghost use lib.ListN.{length};
 ghost use Prim.Native.Nat.{_≤_};
-ghost use Rattle.records.specs.Run.{runCheck, runSize, runFirst, runRest, Part};
+ghost use Rattle.records.specs.Run.{runCheck, fitting, runSize, runFirst, runRest, Part};
 
 // The number with which the run ends here; 0 where nothing remains, or where a whole record stands in front.
 pub fn run_check(run: &[u8]) -> u8
@@ -19,16 +19,18 @@ pub fn run_check(run: &[u8]) -> u8
     if run.len() < f.length { 5 } else { 0 }
 }
 
+fn fitting(n: usize, run: &[u8]) -> usize
+    ensures { λ r. ⌜ r ≡ fitting n (now (run .entry)) ⌝ }
+{
+    if n <= run.len() { n } else { 0 }
+}
+
 // The length of the record in front; 0 where the run ends here.
 fn run_size(run: &[u8]) -> usize
     ensures { λ r. ⌜ (r ≡ runSize (now (run .entry))) × (r ≤ length (now (run .entry))) ⌝ }
 {
-    if run_check(run) == 0 {
-        let f = form_of(run);
-        f.length
-    } else {
-        0
-    }
+    let f = form_of(run);
+    fitting(f.length, run)
 }
 
 // The record in front; empty where the run ends here.

@@ -1,4 +1,4 @@
--- The offices of a set: their number, and the lowest of them.
+-- For offices: the number of the offices of a set, and the lowest of them.
 use mathlib.Core.Path.{_≡_, refl, sym, _∙_}
 use mathlib.Core.Bool.{Bool, true, false, _&&_, not}
 use Prim.Native.Nat.{ℕ, zero, suc, _+_, _*_, _^_, _≤_, _<_}
@@ -26,7 +26,8 @@ unfolding packed sum ones onesIn
 ones-packed zero p = refl
 ones-packed (suc n) p = go (p n) (ones-packed n p) (ones-cat n 1 (packed n p) (packed-lt n p))
   where
-    go : (t : Bool) → ones (packed n p) ≡ sum n (λ k. ifb (p k) 1 0) → ones (1 * 2 ^ n + packed n p) ≡ ones 1 + ones (packed n p)
+    go : (t : Bool) → ones (packed n p) ≡ sum n (λ k. ifb (p k) 1 0)
+        → ones (1 * 2 ^ n + packed n p) ≡ ones 1 + ones (packed n p)
         → ones (packed n p + ifb t (2 ^ n) 0) ≡ ifb t 1 0 + sum n (λ k. ifb (p k) 1 0)
     go true e c =
         let q : packed n p + 2 ^ n ≡ 1 * 2 ^ n + packed n p = omega arith in
@@ -45,7 +46,8 @@ pub count-le : (x : ℕ) → countOf x ≤ 16
 count-le x = let a = ones-le 16 (officesOf x) (offices-lt x) in let b = count-ones x in omega arith
 
 -- beside an office of the set there is one fewer
-pub others-count : (x o : ℕ) → o < 16 → serves x o ≡ true → sum 16 (λ k. ifb (serves x k && not (eqb k o)) 1 0) + 1 ≡ countOf x
+pub others-count : (x o : ℕ) → o < 16 → serves x o ≡ true
+    → sum 16 (λ k. ifb (serves x k && not (eqb k o)) 1 0) + 1 ≡ countOf x
 unfolding countOf
 others-count x o h e = count-without 16 (serves x) o h e
 

@@ -1,4 +1,4 @@
--- The offices of a set, gathered by shifts and masks.
+-- For offices::gather: the offices of a set, gathered by shifts and masks.
 use mathlib.Core.Path.{_≡_, refl, sym, ap, _∙_}
 use mathlib.Core.Bool.{Bool, true, false, not, _&&_, _||_, and-true, and-false, or-false}
 use Prim.Native.Nat.{ℕ, _+_, _*_, _/_, _%_, _^_, _<_}
@@ -57,8 +57,8 @@ Within n y = (s : ℕ) → has n s ≡ false → has y s ≡ false
 masked : (z m : ℕ) → Within m (bitAnd z m)
 masked z m s e = has-and z m s ∙ ap (λ (b : Bool). has z s && b) e ∙ and-false (has z s)
 
--- An office stands at p before a fold of k places and at q after it. Of the places q and k + q, p is the one inside the mask
--- n from before; the fold's own mask m keeps q.
+-- An office stands at p before a fold of k places and at q after it. Of the places q and k + q, p is the one inside
+-- the mask n from before; the fold's own mask m keeps q.
 abbrev moves : ℕ → ℕ → ℕ → ℕ → ℕ → Bool
 moves k n m p q = has m q && (eqb p (ifb (has n q) q (k + q)) && not (has n q && has n (k + q)))
 
@@ -70,7 +70,8 @@ fold-at k n m p q y w e =
     has-and (bitOr y (y / 2 ^ k)) m q
     ∙ rw (c .0, and-true, has-or y (y / 2 ^ k) q, has-shift k y q) (go (has n q) refl (eqb-true _ _ (d .0)) (d .1))
   where
-    go : (t : Bool) → has n q ≡ t → p ≡ ifb t q (k + q) → not (t && has n (k + q)) ≡ true → has y q || has y (k + q) ≡ has y p
+    go : (t : Bool) → has n q ≡ t → p ≡ ifb t q (k + q) → not (t && has n (k + q)) ≡ true
+        → has y q || has y (k + q) ≡ has y p
     go true a b c = rw (b, w (k + q) (not-true _ c), or-false)
     go false a b c = rw (b, w q a)
 
@@ -99,7 +100,21 @@ spread-at : (x o : ℕ) → o < 16 → has (spread x) (place 1 o) ≡ serves x o
 unfolding spread serves
 spread-at x o h =
     let q : place 1 o ≡ 4 * o = omega arith in
-    rw (q, has-and, every-fourth o h, and-true, has-or, has-shift 3, has-or, has-shift 2, has-or, has-shift 1, add-comm 1, add-comm 2, add-comm 3)
+    rw (
+      q,
+      has-and,
+      every-fourth o h,
+      and-true,
+      has-or,
+      has-shift 3,
+      has-or,
+      has-shift 2,
+      has-or,
+      has-shift 1,
+      add-comm 1,
+      add-comm 2,
+      add-comm 3,
+    )
 
 gathered-at : (x o : ℕ) → o < 16 → has (gathered x) o ≡ serves x o
 unfolding gathered allb has bit
@@ -116,7 +131,9 @@ gathered-at x o h =
 
 gathered-lt : (x : ℕ) → gathered x < 2 ^ 16
 unfolding gathered fold
-gathered-lt x = let d : ℕ = fold 12 inHalves (fold 6 inSixteens (fold 3 inEights (spread x))) in mask-lt (bitOr d (d / 2 ^ 24)) 16
+gathered-lt x =
+    let d : ℕ = fold 12 inHalves (fold 6 inSixteens (fold 3 inEights (spread x))) in
+    mask-lt (bitOr d (d / 2 ^ 24)) 16
 
 pub gathers : (x : ℕ) → gathered x ≡ officesOf x
 gathers x =
@@ -126,4 +143,6 @@ gathers x =
   where
     at : (s : ℕ) → Dec (s < 16) → has (gathered x) s ≡ has (officesOf x) s
     at s (yes l) = gathered-at x s l ∙ sym (has-offices x s l)
-    at s (no n) = has-high 16 (gathered x) s (gathered-lt x) (omega arith) ∙ sym (has-high 16 (officesOf x) s (offices-lt x) (omega arith))
+    at s (no n) =
+        has-high 16 (gathered x) s (gathered-lt x) (omega arith)
+        ∙ sym (has-high 16 (officesOf x) s (offices-lt x) (omega arith))

@@ -1,4 +1,4 @@
--- What holds of sets of seats: membership, bounds, equality.
+-- For SeatSet: what holds of sets of seats: membership, bounds, equality.
 use mathlib.Core.Path.{_≡_, refl, sym, ap, _∙_}
 use mathlib.Core.Bool.{Bool, true, false, not, _&&_, _||_, and-false, true≢false, false≢true}
 use Prim.Native.Nat.{ℕ, zero, suc, _-_, _^_, _≤_, _<_, min, max}
@@ -26,7 +26,8 @@ digit-cases P p q r t (suc zero) (suc (suc b)) ha hb = absurd (omega arith)
 
 same-digit : (a b : ℕ) → a < 2 → b < 2 → eqb a 1 ≡ eqb b 1 → a ≡ b
 same-digit =
-    digit-cases (λ a b. eqb a 1 ≡ eqb b 1 → a ≡ b) (λ e. refl) (λ e. absurd (false≢true e)) (λ e. absurd (true≢false e)) (λ e. refl)
+    digit-cases (λ a b. eqb a 1 ≡ eqb b 1 → a ≡ b) (λ e. refl) (λ e. absurd (false≢true e))
+    (λ e. absurd (true≢false e)) (λ e. refl)
 
 not-digit : (b : ℕ) → b < 2 → eqb (1 - b) 1 ≡ not (eqb b 1)
 not-digit zero hb = refl
@@ -38,20 +39,22 @@ pub has-union : (x y s : ℕ) → has (unionOf x y) s ≡ has x s || has y s
 unfolding has unionOf
 has-union x y s =
     ap (λ (n : ℕ). eqb n 1) (bit-or x y s)
-    ∙ digit-cases (λ a b. eqb (max a b) 1 ≡ eqb a 1 || eqb b 1) refl refl refl refl (bit x s) (bit y s) (bit-lt x s) (bit-lt y s)
+    ∙ digit-cases (λ a b. eqb (max a b) 1 ≡ eqb a 1 || eqb b 1) refl refl refl refl (bit x s) (bit y s) (bit-lt x s)
+    (bit-lt y s)
 
 pub has-and : (x y s : ℕ) → has (bitAnd x y) s ≡ has x s && has y s
 unfolding has
 has-and x y s =
     ap (λ (n : ℕ). eqb n 1) (bit-and x y s)
-    ∙ digit-cases (λ a b. eqb (min a b) 1 ≡ eqb a 1 && eqb b 1) refl refl refl refl (bit x s) (bit y s) (bit-lt x s) (bit-lt y s)
+    ∙ digit-cases (λ a b. eqb (min a b) 1 ≡ eqb a 1 && eqb b 1) refl refl refl refl (bit x s) (bit y s) (bit-lt x s)
+    (bit-lt y s)
 
 -- in a set of any width
 pub has-not : (w y s : ℕ) → s < w → y < 2 ^ w → has (2 ^ w - 1 - y) s ≡ not (has y s)
 unfolding has
 has-not w y s h hy = ap (λ (n : ℕ). eqb n 1) (bit-not w s y h hy) ∙ not-digit (bit y s) (bit-lt y s)
 
-pub has-without : (x y s : ℕ) → s < 64 → y < 2 ^ 64 → has (withoutOf x y) s ≡ has x s && not (has y s)
+has-without : (x y s : ℕ) → s < 64 → y < 2 ^ 64 → has (withoutOf x y) s ≡ has x s && not (has y s)
 unfolding withoutOf
 has-without x y s h hy = has-and x (2 ^ 64 - 1 - y) s ∙ ap (λ (b : Bool). has x s && b) (has-not 64 y s h hy)
 
@@ -129,7 +132,9 @@ insert-lt x s hx = go (decLt s 64)
 
 pub remove-lt : (x s : ℕ) → x < 2 ^ 64 → removeOf x s < 2 ^ 64
 unfolding removeOf
-remove-lt x s hx = if-cases (λ (y : ℕ). y < 2 ^ 64) (ltb s 64) _ _ (λ e. let h = and-le-l x (2 ^ 64 - 1 - 2 ^ s) in omega arith) (λ e. hx)
+remove-lt x s hx =
+    if-cases (λ (y : ℕ). y < 2 ^ 64) (ltb s 64) _ _
+    (λ e. let h = and-le-l x (2 ^ 64 - 1 - 2 ^ s) in omega arith) (λ e. hx)
 
 -- two sets with the same seats are equal
 pub same-seats : (x y : ℕ) → x < 2 ^ 64 → y < 2 ^ 64 → ((s : ℕ) → s < 64 → has x s ≡ has y s) → x ≡ y
@@ -142,10 +147,16 @@ same-seats x y hx hy h = bit-ext x y (λ s. go s (decLt s 64))
 
 -- joining and leaving the same seats once more changes nothing
 pub joined-again : (x joining leaving : ℕ) → x < 2 ^ 64 → joining < 2 ^ 64 → leaving < 2 ^ 64
-    → withoutOf (unionOf (withoutOf (unionOf x joining) leaving) joining) leaving ≡ withoutOf (unionOf x joining) leaving
+    → withoutOf (unionOf (withoutOf (unionOf x joining) leaving) joining) leaving
+    ≡ withoutOf (unionOf x joining) leaving
 joined-again x joining leaving hx hj hl =
     same-seats _ _ (without-lt _ leaving (union-lt once joining below hj)) below
-    (λ s h. rw (has-without (unionOf once joining) leaving s h hl, has-union once joining s, has-without (unionOf x joining) leaving s h hl, has-union x joining s)
+    (λ s h. rw (
+      has-without (unionOf once joining) leaving s h hl,
+      has-union once joining s,
+      has-without (unionOf x joining) leaving s h hl,
+      has-union x joining s,
+    )
     (again (has x s) (has joining s) (has leaving s)))
   where
     once : ℕ

@@ -1,8 +1,8 @@
--- The laws of seat sets; and what the proofs of several functions use.
-mod Forms
+-- SeatSet: its laws; and its functions by shifts and masks.
 pub mod Laws
--- The laws of the offices of a set; and what the proofs of several functions use.
-pub mod Counts
-mod OfficeForms
-mod Gathering
+mod SeatBits
+-- offices: their laws; and its functions by shifts and masks.
 pub mod OfficeLaws
+pub mod Counts
+mod Gathering
+mod OfficeBits

@@ -1,4 +1,4 @@
--- What holds of the offices of a set: their seats, and the sixteen-bit set of them.
+-- For offices: what holds of the offices of a set: their seats, and the sixteen-bit set of them.
 use mathlib.Core.Path.{_≡_, refl, sym, ap, _∙_}
 use mathlib.Core.Bool.{Bool, true, false, _&&_, _||_, and-true, and-false, or-true, or-false}
 use mathlib.Core.Logic.{⊎-elim}
@@ -29,7 +29,8 @@ has-seats o s h = rw (lt-ltb o 16 h) (go (decLt s (4 * o)))
   where
     at : (r : ℕ) → 4 * o + r ≡ s → Dec (r < 4) → eqb (bit (15 * 2 ^ (4 * o)) (4 * o + r)) 1 ≡ eqb (s / 4) o
     at r e (yes l) = rw (bit-shl (4 * o) 15 r, four-ones r l) (sym (eq-eqb (s / 4) o (omega arith)))
-    at r e (no n) = rw (bit-shl (4 * o) 15 r, bit-high 4 r 15 (lit< tt) (omega arith)) (sym (ne-eqb (s / 4) o (λ q. omega arith)))
+    at r e (no n) = rw (bit-shl (4 * o) 15 r, bit-high 4 r 15 (lit< tt) (omega arith))
+        (sym (ne-eqb (s / 4) o (λ q. omega arith)))
 
     go : Dec (s < 4 * o) → eqb (bit (15 * 2 ^ (4 * o)) s) 1 ≡ eqb (s / 4) o
     go (yes l) = rw (bit-shl-low (4 * o) 15 s l) (sym (ne-eqb (s / 4) o (λ q. omega arith)))
@@ -55,7 +56,8 @@ unfolding serves officeOf
 serves-seat x o e =
     ⊎-elim
     (λ l. ⊎-elim
-    (λ m. ⊎-elim (λ a. (4 * o, omega arith, a)) (λ b. (4 * o + 1, omega arith, b)) (or-cases (has x (4 * o)) (has x (4 * o + 1)) m))
+    (λ m. ⊎-elim (λ a. (4 * o, omega arith, a)) (λ b. (4 * o + 1, omega arith, b))
+    (or-cases (has x (4 * o)) (has x (4 * o + 1)) m))
     (λ c. (4 * o + 2, omega arith, c))
     (or-cases (has x (4 * o) || has x (4 * o + 1)) (has x (4 * o + 2)) l))
     (λ d. (4 * o + 3, omega arith, d))
@@ -63,7 +65,11 @@ serves-seat x o e =
 
 pub serves-below : (x o : ℕ) → x < 2 ^ 64 → serves x o ≡ true → o < 16
 unfolding officeOf
-serves-below x o hx e = let w = serves-seat x o e in let h = has-below x (w .0) hx (w .2) in let q = w .1 in omega arith
+serves-below x o hx e =
+    let w = serves-seat x o e in
+    let h = has-below x (w .0) hx (w .2) in
+    let q = w .1 in
+    omega arith
 
 -- bit k of a packed number
 pub packed-lt : (n : ℕ) (p : ℕ → Bool) → packed n p < 2 ^ n
@@ -76,8 +82,9 @@ packed-lt (suc n) p =
 packed-step : (n : ℕ) (p : ℕ → Bool) → packed (suc n) p ≡ unionOf (packed n p) (ifb (p n) (2 ^ n) 0)
 unfolding packed unionOf
 packed-step n p =
+    let a = packed n p in
     if-cases (λ (d : ℕ). packed n p + d ≡ bitOr (packed n p) d) (p n) (2 ^ n) 0
-    (λ e. let q : bitOr (packed n p) (2 ^ n) ≡ 2 ^ n + packed n p = rw one-mul at (or-shifted-r 1 n (packed n p) (packed-lt n p)) in omega arith)
+    (λ e. let q : bitOr a (2 ^ n) ≡ 2 ^ n + a = rw one-mul at (or-shifted-r 1 n a (packed-lt n p)) in omega arith)
     (λ e. let q = or-zero-r (packed n p) in omega arith)
 
 has-flag : (t : Bool) (n k : ℕ) → has (ifb t (2 ^ n) 0) k ≡ t && eqb k n

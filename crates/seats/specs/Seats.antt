@@ -14,15 +14,18 @@ seatCount = 64
 unfoldable pub has : ℕ → ℕ → Bool
 has x s = eqb (bit x s) 1
 
+abbrev pub isSeat : ℕ → Bool
+isSeat s = ltb s seatCount
+
 -- a seat above 63 is in no set, and leaves a set as it is
 unfoldable pub containsOf : ℕ → ℕ → Bool
-containsOf x s = ltb s seatCount && has x s
+containsOf x s = isSeat s && has x s
 
 unfoldable pub insertOf : ℕ → ℕ → ℕ
-insertOf x s = ifb (ltb s seatCount) (bitOr x (2 ^ s)) x
+insertOf x s = ifb (isSeat s) (bitOr x (2 ^ s)) x
 
 unfoldable pub removeOf : ℕ → ℕ → ℕ
-removeOf x s = ifb (ltb s seatCount) (bitAnd x (2 ^ 64 - 1 - 2 ^ s)) x
+removeOf x s = ifb (isSeat s) (bitAnd x (2 ^ 64 - 1 - 2 ^ s)) x
 
 -- the lowest seat of a set; 64 where it is empty
 unfoldable pub lowestSeat : ℕ → ℕ

@@ -1,11 +1,18 @@
-// Sets of seats, and what they say of offices (offices). There are 64 seats, 0 to 63.
+// Sets of seats. There are 64 seats, 0 to 63.
 ghost use mathlib.Core.Path.{_≡_};
 ghost use lib.Dec.{eqb};
-ghost use Rattle.seats.specs.Seats.{containsOf, insertOf, removeOf, lowestSeat, unionOf, withoutOf};
+ghost use Rattle.seats.specs.Seats.{isSeat, containsOf, insertOf, removeOf, lowestSeat, unionOf, withoutOf};
 
+// The offices of a set: which they are, how many, and the lowest.
 pub mod offices;
 
 pub const SEATS: u8 = 64;
+
+fn is_seat(seat: u8) -> bool
+    ensures { λ r. ⌜ r ≡ isSeat seat ⌝ }
+{
+    seat < SEATS
+}
 
 // Bit s of `bits` is set when seat s is in the set.
 pub struct SeatSet {
@@ -19,7 +26,7 @@ impl SeatSet {
     pub fn insert(self, seat: u8) -> SeatSet
         ensures { λ r. ⌜ r .bits ≡ insertOf (self .bits) seat ⌝ }
     {
-        if seat < SEATS {
+        if is_seat(seat) {
             SeatSet {
                 bits: self.bits | (1u64 << seat),
             }
@@ -31,7 +38,7 @@ impl SeatSet {
     pub fn remove(self, seat: u8) -> SeatSet
         ensures { λ r. ⌜ r .bits ≡ removeOf (self .bits) seat ⌝ }
     {
-        if seat < SEATS {
+        if is_seat(seat) {
             SeatSet {
                 bits: self.bits & !(1u64 << seat),
             }
@@ -44,7 +51,7 @@ impl SeatSet {
     pub fn contains(self, seat: u8) -> bool
         ensures { λ r. ⌜ r ≡ containsOf (self .bits) seat ⌝ }
     {
-        if seat < SEATS {
+        if is_seat(seat) {
             (self.bits >> seat) & 1 == 1
         } else {
             false

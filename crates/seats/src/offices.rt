@@ -1,7 +1,8 @@
-// The offices of a set of seats: which they are, how many, and the lowest. There are 16 offices, 0 to 15; seat s belongs to office s / 4,
-// rounded down.
+// The offices of a set of seats: which they are, how many, and the lowest. There are 16 offices, 0 to 15; seat s
+// belongs to office s / 4, rounded down.
 use crate::SeatSet;
 ghost use mathlib.Core.Path.{_≡_};
+ghost use lib.Count.{ones};
 ghost use Rattle.seats.specs.Offices.{officeOf, seatsOf, serves, officesOf, touched, lowestOf};
 
 const OFFICES: u8 = 16;
@@ -37,7 +38,7 @@ pub fn office_of(seat: u8) -> u8
 }
 
 // The four seats of an office; none for an office above 15.
-pub fn seats_of(office: u8) -> SeatSet
+fn seats_of(office: u8) -> SeatSet
     ensures { λ r. ⌜ r .bits ≡ seatsOf office ⌝ }
 {
     if office < OFFICES {
@@ -57,15 +58,22 @@ pub fn serves(set: SeatSet, office: u8) -> bool
     set.bits & seats.bits != 0
 }
 
+// How many bits are set.
+fn ones(x: u64) -> u8
+    ensures { λ r. ⌜ r ≡ ones x ⌝ }
+{
+    u64::count_ones(x) as u8
+}
+
 // Which offices have a seat in the set, and how many they are.
 pub fn touched(set: SeatSet) -> OfficeSet
     ensures { λ r. ⌜ r ≡ touched (set .bits) ⌝ }
 {
     let seats = set.bits;
-    let bits = gather(seats) as u16;
-    let count = u16::count_ones(bits) as u8;
+    let offices = gather(seats);
+    let bits = offices as u16;
     OfficeSet {
         bits: bits,
-        count: count,
+        count: ones(offices),
     }
 }

@@ -1,44 +1,61 @@
-// A record through the step once checks 2 and 3 are passed, inner to the layer of the step: by the reader of its kind, refused, or accepted.
+// A record through the step once checks 2 and 3 are passed, by its kind: refused, or accepted. Inner to the layer of
+// the step.
 use crate::answers::Answer;
 use crate::answers::accept;
 use crate::answers::refuse;
 use crate::refusals;
 use act::on_proposal::act_on_proposal;
 use act::on_report::act_on_report;
-use record_bytes::proposals::read_proposal;
-use record_bytes::reports::read_report;
-ghost use mathlib.Core.Path.{_≡_};
+use record_bytes::proposals::decode_proposal;
+use record_bytes::reports::decode_report;
+use records::RecordKind;
+use records::check_for;
+use records::form_of;
 ghost use lib.ListN.{length};
-ghost use Rattle.record_bytes.specs.reports.Read.{readReport};
 ghost use Rattle.step.specs.Step.{Ready, Stepped, stepRow};
+ghost use Rattle.step.specs.Tried.{SeenReport, SeenProposal};
 
-// A record that has no report's mark: the reader of proposals has the word.
-fn on_other_mark(state: &mut [u32], low: bool, record: &[u8], out: &mut [u8]) -> Answer
-    requires { ⌜ Ready (now state) low (length (now out)) × (readReport (now «record») .refusal ≡ 4) ⌝ }
-    ensures { λ r. ⌜ Stepped (stepRow (now (state .entry)) (now («record» .entry)) (length (now (out .entry)))) (now (out .entry))
-        (r .refusal) (r .written) (now (state .exit)) (now (out .exit)) ⌝ }
+// A record with a report's mark, whose number by checks 4 and 5 is handed in.
+fn on_report(state: &mut [u32], low: bool, unread: u8, record: &[u8], out: &mut [u8]) -> Answer
+    requires { ⌜ Ready (now state) low (length (now out)) × SeenReport (now «record») unread ⌝ }
+    ensures { λ r. ⌜ Stepped (stepRow (now (state .entry)) (now («record» .entry)) (length (now (out .entry))))
+        (now (out .entry)) (r .refusal) (r .written) (now (state .exit)) (now (out .exit)) ⌝ }
 {
-    let read = read_proposal(record);
-    let refusal = refusals::proposal(state, low, read.refusal, read.proposal);
+    let report = decode_report(record);
+    let refusal = refusals::report(state, low, unread, report);
     if refusal != 0 {
         return refuse(refusal);
     }
-    accept(act_on_proposal(state, read.proposal, out))
+    accept(act_on_report(state, report, out))
 }
 
-// A record, once checks 2 and 3 are passed. 4 from the reader of reports says that it has another mark.
-pub fn on_record(state: &mut [u32], low: bool, record: &[u8], out: &mut [u8]) -> Answer
-    requires { ⌜ Ready (now state) low (length (now out)) ⌝ }
-    ensures { λ r. ⌜ Stepped (stepRow (now (state .entry)) (now («record» .entry)) (length (now (out .entry)))) (now (out .entry))
-        (r .refusal) (r .written) (now (state .exit)) (now (out .exit)) ⌝ }
+// The same with a proposal's mark.
+fn on_proposal(state: &mut [u32], low: bool, unread: u8, record: &[u8], out: &mut [u8]) -> Answer
+    requires { ⌜ Ready (now state) low (length (now out)) × SeenProposal (now «record») unread ⌝ }
+    ensures { λ r. ⌜ Stepped (stepRow (now (state .entry)) (now («record» .entry)) (length (now (out .entry))))
+        (now (out .entry)) (r .refusal) (r .written) (now (state .exit)) (now (out .exit)) ⌝ }
 {
-    let read = read_report(record);
-    if read.refusal == 4 {
-        return on_other_mark(state, low, record, out);
-    }
-    let refusal = refusals::report(state, low, read.refusal, read.report);
+    let proposal = decode_proposal(record);
+    let refusal = refusals::proposal(state, low, unread, proposal);
     if refusal != 0 {
         return refuse(refusal);
     }
-    accept(act_on_report(state, read.report, out))
+    accept(act_on_proposal(state, proposal, out))
+}
+
+// A record, once checks 2 and 3 are passed: one look at its mark says its kind and, with its length, its number by
+// checks 4 and 5.
+pub fn on_record(state: &mut [u32], low: bool, record: &[u8], out: &mut [u8]) -> Answer
+    requires { ⌜ Ready (now state) low (length (now out)) ⌝ }
+    ensures { λ r. ⌜ Stepped (stepRow (now (state .entry)) (now («record» .entry)) (length (now (out .entry))))
+        (now (out .entry)) (r .refusal) (r .written) (now (state .exit)) (now (out .exit)) ⌝ }
+{
+    let form = form_of(record);
+    let kind = form.kind;
+    let unread = check_for(form.length, record);
+    match kind {
+        RecordKind::Report => on_report(state, low, unread, record, out),
+        RecordKind::Proposal => on_proposal(state, low, unread, record, out),
+        RecordKind::Other => refuse(unread),
+    }
 }

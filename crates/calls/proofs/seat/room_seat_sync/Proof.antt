@@ -1,6 +1,6 @@
 use mathlib.Core.Path.{sym, _∙_}
 use borrow.Author.Tests.{eqb-true}
-use Rattle.records.proofs.Write.{placed-none}
+use Rattle.records.proofs.Placing.{placed-none}
 use Rattle.calls.proofs.InSeatWords.{sync-other, sync-words}
 use borrow.Author.Needs.{needs}
 use Rattle.calls.proofs.seat.room_seat_sync.Statement.{statement}

@@ -1,4 +1,4 @@
-use Rattle.records.proofs.Write.{placed-none}
+use Rattle.records.proofs.Placing.{placed-none}
 use Rattle.desk.proofs.SyncLaws.{no-sync, sync-made}
 use borrow.Author.Needs.{needs}
 use Rattle.desk.proofs.syncing.make_sync.Statement.{statement}

@@ -27,13 +27,21 @@ returns-2 : tie.Need-returns-2
 unfolding checkOwn checkFor
 returns-2 c =
     let s = c .before .before .before .before .before .before .before .args in
-    rw (eq-eqb (markOf (s .bytes .now)) (valueOf (s .mark .now)) (omega arith), ne-eqb (s .n) 0 (λ e. omega arith), eq-eqb _ _ (c .if2 .taken))
+    rw (
+      eq-eqb (markOf (s .bytes .now)) (valueOf (s .mark .now)) (omega arith),
+      ne-eqb (s .n) 0 (λ e. omega arith),
+      eq-eqb _ _ (c .if2 .taken),
+    )
 
 returns-3 : tie.Need-returns-3
 unfolding checkOwn checkFor
 returns-3 c =
     let s = c .before .before .before .before .before .before .before .args in
-    rw (eq-eqb (markOf (s .bytes .now)) (valueOf (s .mark .now)) (omega arith), ne-eqb (s .n) 0 (λ e. omega arith), ne-eqb _ _ (c .if2 .left))
+    rw (
+      eq-eqb (markOf (s .bytes .now)) (valueOf (s .mark .now)) (omega arith),
+      ne-eqb (s .n) 0 (λ e. omega arith),
+      ne-eqb _ _ (c .if2 .left),
+    )
 
 pub check-own-spec : {M : Type 1} → statement M
 check-own-spec =

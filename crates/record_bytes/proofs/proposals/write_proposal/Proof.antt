@@ -4,7 +4,7 @@ use mathlib.Core.List.{[], _∷_}
 use mathlib.Core.Path.{_≡_}
 use Rattle.laws.specs.Big.{bytes4, bytes8, bytesAll}
 use Rattle.laws.proofs.Big.{Wrote, wrote-then}
-use Rattle.records.proofs.Write.{placed-in, placed-out}
+use Rattle.records.proofs.Placing.{placed-in, placed-out}
 use Rattle.records.proofs.Lengths.{proposal-length}
 use Rattle.records.specs.Layout.{proposalMark, proposalLength, encodeProposal}
 use borrow.Author.Needs.{needs}
@@ -23,7 +23,8 @@ unfolding encodeProposal
 returns c =
     let s = c .before .before .before in
     let r = s .args .p in
-    placed-out (s .args .out .now) (s .args .at) (encodeProposal r) proposalLength (proposal-length r (array-len s)) (omega arith)
+    placed-out (s .args .out .now) (s .args .at) (encodeProposal r) proposalLength (proposal-length r (array-len s))
+    (omega arith)
 
 put-mark-requires : tie.Need-put-mark-requires
 put-mark-requires c κs = search needs

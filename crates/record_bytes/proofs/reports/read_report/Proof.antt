@@ -1,8 +1,6 @@
-use borrow.Author.Tests.{eq-eqb, ne-eqb}
 use Rattle.record_bytes.specs.reports.Read.{readReport}
-use Rattle.records.proofs.CheckLaws.{own-length}
-use mathlib.Core.Path.{_≡_, _∙_, sym}
-use Rattle.records.specs.Layout.{reportMark, reportLength, decodeReport, checkOwn}
+use Rattle.records.proofs.CheckLaws.{sized-accepted}
+use Rattle.records.specs.Layout.{reportMark, reportLength}
 use borrow.Author.Needs.{needs}
 use Rattle.record_bytes.proofs.reports.read_report.Statement.{statement}
 use Rattle.record_bytes.proofs.reports.read_report.Tie as tie
@@ -10,23 +8,23 @@ use Rattle.record_bytes.proofs.reports.read_report.Tie as tie
 check-own-requires : tie.Need-check-own-requires
 check-own-requires c κs = search needs
 
-returns : tie.Need-returns
-unfolding readReport decodeReport
-returns c =
-    let n = c .before .check-own .result in
-    let e : n ≡ checkOwn reportMark reportLength (c .before .before .before .before .args .bytes .now) = c .before .check-own .ensures in
-    rw (← e, ne-eqb n 0 (c .if1 .taken))
+accepted-requires : tie.Need-accepted-requires
+accepted-requires c κs = search needs
 
 decode-report-requires : tie.Need-decode-report-requires
-decode-report-requires c κs =
-    let b = c .before .before .before .before .args .bytes .now in
-    own-length reportMark reportLength b (sym (c .before .check-own .ensures) ∙ c .if1 .left)
+decode-report-requires c κs = search needs
 
-returns-2 : tie.Need-returns-2
+returns : tie.Need-returns
 unfolding readReport
-returns-2 c =
-    let n = c .before .before .check-own .result in
-    rw (← c .before .before .check-own .ensures, eq-eqb n 0 (c .before .if1 .left), c .decode-report .ensures)
+returns c =
+    let n = c .before .before .check-own in
+    let b = c .before .before .before .before .before .args .bytes .now in
+    rw (
+      c .decode-report .ensures,
+      c .before .accepted .ensures,
+      sized-accepted reportMark reportLength b (n .result) (n .ensures),
+      n .ensures,
+    )
 
 pub read-report-spec : {M : Type 1} → statement M
-read-report-spec = tie.close (tie.spec check-own-requires returns decode-report-requires returns-2)
+read-report-spec = tie.close (tie.spec check-own-requires accepted-requires decode-report-requires returns)

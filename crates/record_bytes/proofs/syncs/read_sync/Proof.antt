@@ -1,8 +1,6 @@
-use borrow.Author.Tests.{eq-eqb, ne-eqb}
 use Rattle.record_bytes.specs.syncs.Read.{readSync}
-use Rattle.records.proofs.CheckLaws.{own-length}
-use mathlib.Core.Path.{_≡_, _∙_, sym}
-use Rattle.records.specs.Layout.{syncMark, syncLength, decodeSync, checkOwn}
+use Rattle.records.proofs.CheckLaws.{sized-accepted}
+use Rattle.records.specs.Layout.{syncMark, syncLength}
 use borrow.Author.Needs.{needs}
 use Rattle.record_bytes.proofs.syncs.read_sync.Statement.{statement}
 use Rattle.record_bytes.proofs.syncs.read_sync.Tie as tie
@@ -10,23 +8,23 @@ use Rattle.record_bytes.proofs.syncs.read_sync.Tie as tie
 check-own-requires : tie.Need-check-own-requires
 check-own-requires c κs = search needs
 
-returns : tie.Need-returns
-unfolding readSync decodeSync
-returns c =
-    let n = c .before .check-own .result in
-    let e : n ≡ checkOwn syncMark syncLength (c .before .before .before .before .args .bytes .now) = c .before .check-own .ensures in
-    rw (← e, ne-eqb n 0 (c .if1 .taken))
+accepted-requires : tie.Need-accepted-requires
+accepted-requires c κs = search needs
 
 decode-sync-requires : tie.Need-decode-sync-requires
-decode-sync-requires c κs =
-    let b = c .before .before .before .before .args .bytes .now in
-    own-length syncMark syncLength b (sym (c .before .check-own .ensures) ∙ c .if1 .left)
+decode-sync-requires c κs = search needs
 
-returns-2 : tie.Need-returns-2
+returns : tie.Need-returns
 unfolding readSync
-returns-2 c =
-    let n = c .before .before .check-own .result in
-    rw (← c .before .before .check-own .ensures, eq-eqb n 0 (c .before .if1 .left), c .decode-sync .ensures)
+returns c =
+    let n = c .before .before .check-own in
+    let b = c .before .before .before .before .before .args .bytes .now in
+    rw (
+      c .decode-sync .ensures,
+      c .before .accepted .ensures,
+      sized-accepted syncMark syncLength b (n .result) (n .ensures),
+      n .ensures,
+    )
 
 pub read-sync-spec : {M : Type 1} → statement M
-read-sync-spec = tie.close (tie.spec check-own-requires returns decode-sync-requires returns-2)
+read-sync-spec = tie.close (tie.spec check-own-requires accepted-requires decode-sync-requires returns)

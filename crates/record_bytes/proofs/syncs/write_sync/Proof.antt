@@ -2,7 +2,7 @@ use native.Mathlib.Omega.{arith}
 use mathlib.Core.List.{[], _∷_}
 use Rattle.laws.specs.Big.{bytes4}
 use Rattle.laws.proofs.Big.{Wrote, wrote-then}
-use Rattle.records.proofs.Write.{placed-in, placed-out}
+use Rattle.records.proofs.Placing.{placed-in, placed-out}
 use Rattle.records.proofs.Lengths.{sync-length}
 use Rattle.records.specs.Layout.{syncMark, syncLength, encodeSync}
 use borrow.Author.Needs.{needs}

@@ -3,7 +3,7 @@ use native.Mathlib.Omega.{arith}
 use mathlib.Core.Path.{_≡_}
 use Rattle.laws.specs.Big.{bytes4, bytes8, bytesAll}
 use Rattle.laws.proofs.Big.{Wrote, wrote-then}
-use Rattle.records.proofs.Write.{placed-in, placed-out}
+use Rattle.records.proofs.Placing.{placed-in, placed-out}
 use Rattle.records.proofs.Lengths.{view-length}
 use Rattle.records.specs.Layout.{viewMark, viewLength, encodeView}
 use borrow.Author.Needs.{needs}

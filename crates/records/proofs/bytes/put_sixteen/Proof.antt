@@ -10,7 +10,8 @@ use Rattle.records.proofs.bytes.put_sixteen.Statement.{statement}
 use Rattle.records.proofs.bytes.put_sixteen.Tie as tie
 
 abbrev Inv-loop : tie.InvT-loop
-Inv-loop out₀ at offset place a i₀ out i = (i ≤ 16) × (length out ≡ length out₀) × (out ≡ sets out₀ place (bytesAll (take i a)))
+Inv-loop out₀ at offset place a i₀ out i = (i ≤ 16) × (length out ≡ length out₀)
+    × (out ≡ sets out₀ place (bytesAll (take i a)))
 
 abbrev μ-loop : tie.MeasureT-loop
 μ-loop out₀ at offset place a i₀ out i = 16 - i

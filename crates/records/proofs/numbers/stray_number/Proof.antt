@@ -12,7 +12,8 @@ use Rattle.records.proofs.numbers.stray_number.Statement.{statement}
 use Rattle.records.proofs.numbers.stray_number.Tie as tie
 
 abbrev Inv-loop : tie.InvT-loop
-Inv-loop members numbers stray₀ o₀ stray o = (o ≤ 16) × (stray ≡ anyb o (λ k. not (serves (members .bits) k) && not (eqb (getD numbers k 0) 0)))
+Inv-loop members numbers stray₀ o₀ stray o =
+    (o ≤ 16) × (stray ≡ anyb o (λ k. not (serves (members .bits) k) && not (eqb (getD numbers k 0) 0)))
 
 abbrev μ-loop : tie.MeasureT-loop
 μ-loop members numbers stray₀ o₀ stray o = 16 - o
@@ -51,4 +52,5 @@ returns c =
 
 pub stray-number-spec : {M : Type 1} → statement M
 stray-number-spec =
-    tie.close (tie.spec Inv-loop μ-loop loop-holds cast-serves serves-requires mul-stray array-read-stray add-o loop-less loop-again returns)
+    tie.close (tie.spec Inv-loop μ-loop loop-holds cast-serves serves-requires mul-stray array-read-stray add-o
+    loop-less loop-again returns)

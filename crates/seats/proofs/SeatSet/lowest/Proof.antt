@@ -1,4 +1,4 @@
-use Rattle.seats.proofs.Forms.{trailing-seats, trailing-seat}
+use Rattle.seats.proofs.SeatBits.{trailing-seats, trailing-seat}
 use Rattle.seats.proofs.SeatSet.lowest.Statement.{statement}
 use Rattle.seats.proofs.SeatSet.lowest.Tie as tie
 

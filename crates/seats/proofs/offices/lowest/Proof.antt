@@ -1,4 +1,4 @@
-use Rattle.seats.proofs.OfficeForms.{trailing-fit}
+use Rattle.seats.proofs.OfficeBits.{trailing-fit}
 use Rattle.seats.proofs.Counts.{trailing-office}
 use Rattle.seats.proofs.offices.lowest.Statement.{statement}
 use Rattle.seats.proofs.offices.lowest.Tie as tie

@@ -1,5 +1,5 @@
 use borrow.Author.Needs.{needs}
-use Rattle.seats.proofs.OfficeForms.{office-seats, office-above}
+use Rattle.seats.proofs.OfficeBits.{office-seats, office-above}
 use Rattle.seats.proofs.offices.seats_of.Statement.{statement}
 use Rattle.seats.proofs.offices.seats_of.Tie as tie
 

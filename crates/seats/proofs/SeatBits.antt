@@ -1,4 +1,4 @@
--- What the code computes, with its shifts and masks, is what the definitions say.
+-- For SeatSet: what its functions compute, with shifts and masks, is what the definitions say.
 use mathlib.Core.Path.{_≡_}
 use mathlib.Core.Bool.{false}
 use Prim.Native.Nat.{ℕ, _-_, _*_, _/_, _%_, _^_, _≤_, _<_}

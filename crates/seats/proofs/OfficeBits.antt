@@ -1,4 +1,4 @@
--- What the code computes, with its shifts, masks and counts of digits, is what the definitions say.
+-- For offices: what its functions compute, with shifts, masks and counts of digits, is what the definitions say.
 use mathlib.Core.Path.{_≡_, refl, sym, ap, _∙_}
 use mathlib.Core.Bool.{Bool, true, false, not, _&&_, true≢false}
 use Prim.Native.Nat.{ℕ, _*_, _%_, _^_, _≤_, _<_}
@@ -37,14 +37,16 @@ shares-none x o hx e = go (decLt o 16)
     go (yes l) =
         let le = and-le-l x (seatsOf o) in
         same-seats (bitAnd x (seatsOf o)) 0 (omega arith) (lit< tt)
-        (λ s h. has-and x (seatsOf o) s ∙ ap (λ (b : Bool). has x s && b) (has-seats o s l) ∙ both s (has x s) refl ∙ sym (has-empty s))
+        (λ s h. has-and x (seatsOf o) s ∙ ap (λ (b : Bool). has x s && b) (has-seats o s l) ∙ both s (has x s) refl
+        ∙ sym (has-empty s))
     go (no n) = ap (bitAnd x) (sym (office-above o (omega arith))) ∙ and-zero-r x
 
 shares-some : (x o : ℕ) → x < 2 ^ 64 → serves x o ≡ true → bitAnd x (seatsOf o) ≡ 0 → ⊥
 shares-some x o hx e z =
     let w = serves-seat x o e in
     let l = serves-below x o hx e in
-    let q : has (bitAnd x (seatsOf o)) (w .0) ≡ true = has-and x (seatsOf o) (w .0) ∙ rw (w .2, has-seats o (w .0) l, w .1, eq-eqb o o refl) in
+    let q : has (bitAnd x (seatsOf o)) (w .0) ≡ true =
+    has-and x (seatsOf o) (w .0) ∙ rw (w .2, has-seats o (w .0) l, w .1, eq-eqb o o refl) in
     true≢false (sym q ∙ ap (λ (n : ℕ). has n (w .0)) z ∙ has-empty (w .0))
 
 pub shares : (x o m : ℕ) → x < 2 ^ 64 → m ≡ seatsOf o → not (eqb (bitAnd x m) 0) ≡ serves x o

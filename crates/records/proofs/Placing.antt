@@ -1,4 +1,4 @@
--- A record has room at its place, or not.
+-- For the writers of record_bytes: a record has room at its place, or not.
 use mathlib.Core.Path.{_≡_, sym}
 use mathlib.Core.List.{List, []}
 use Prim.Native.Nat.{ℕ, _+_, _≤_, _<_}
@@ -12,7 +12,10 @@ use Rattle.records.specs.Write.{placed, placedCount, Placed}
 -- no bytes at all
 pub placed-none : (out : List ℕ) (at : ℕ) → Placed out at [] 0 out
 unfolding placed placedCount
-placed-none out at = record { count = sym (if-same (leb (at + 0) (length out)) 0); output = sym (if-same (leb (at + 0) (length out)) out) }
+placed-none out at = record {
+  count = sym (if-same (leb (at + 0) (length out)) 0);
+  output = sym (if-same (leb (at + 0) (length out)) out);
+}
 
 module _ (out : List ℕ) (at : ℕ) (bytes : List ℕ) (n : ℕ) (size : length bytes ≡ n) where
   pub placed-in : (after : List ℕ) → at + n ≤ length out → after ≡ sets out at bytes → Placed out at bytes n after
