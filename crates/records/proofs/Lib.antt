@@ -1,7 +1,6 @@
 -- layout
 pub mod Lengths
 pub mod RoundTrip
-pub mod Placing
 -- checks
 pub mod CheckLaws
 pub mod OwnChecks
@@ -10,3 +9,5 @@ pub mod NumberLaws
 -- run
 pub mod RunLaws
 pub mod Growing
+-- what the writers of record_bytes leave
+pub mod Placing

@@ -16,6 +16,7 @@ pub fn mark_of(bytes: &[u8]) -> u16
     get16(bytes[0], bytes[1])
 }
 
+// The kind and length that a mark's value calls for; any other mark is no record's.
 fn form_for(value: u16) -> Form
     ensures { λ r. ⌜ r ≡ formFor value ⌝ }
 {

@@ -19,6 +19,7 @@ pub fn run_check(run: &[u8]) -> u8
     if run.len() < f.length { 5 } else { 0 }
 }
 
+// The number n where the run has so many bytes, else 0.
 fn fitting(n: usize, run: &[u8]) -> usize
     ensures { λ r. ⌜ r ≡ fitting n (now (run .entry)) ⌝ }
 {

@@ -8,6 +8,7 @@ pub mod offices;
 
 pub const SEATS: u8 = 64;
 
+// Whether there is such a seat.
 fn is_seat(seat: u8) -> bool
     ensures { λ r. ⌜ r ≡ isSeat seat ⌝ }
 {
