@@ -49,9 +49,8 @@ fn used_ahead(state: &[u32], p: Proposal) -> bool
     requires { ⌜ Row (now state) × (stateOf (now state) .own < 16) ⌝ }
     ensures { λ r. ⌜ r ≡ usedAhead (stateOf (now (state .entry))) p ⌝ }
 {
-    let used = p.used;
     let own = row::own(state) as usize;
-    row::number(state) < used[own]
+    row::number(state) < p.used[own]
 }
 
 // Checks 6 to 12: the first that applies, 0 where none does.

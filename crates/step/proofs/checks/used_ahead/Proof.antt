@@ -15,12 +15,13 @@ number-requires c κs = search needs
 mul-result : tie.Need-mul-result
 mul-result c = search needs
 
-array-read-result : tie.Need-array-read-result
-array-read-result c = search needs
+element-copy-out-result : tie.Need-element-copy-out-result
+element-copy-out-result c = search needs
 
 returns : tie.Need-returns
 unfolding usedAhead
-returns c = rw (c .number .ensures, c .before .own .ensures)
+returns c = rw (c .before .number .ensures, ← c .before .before .own .ensures)
 
 pub used-ahead-spec : {M : Type 1} → statement M
-used-ahead-spec = tie.close (tie.spec own-requires cast-own number-requires mul-result array-read-result returns)
+used-ahead-spec =
+    tie.close (tie.spec own-requires cast-own number-requires mul-result element-copy-out-result returns)
