@@ -14,7 +14,6 @@ use Rattle.laws.proofs.Tab.{getD-tab, tab-ext, set-tab}
 use Rattle.laws.specs.Upd.{ifb}
 use Rattle.rules.specs.State.{State, zeros}
 use Rattle.rules.specs.Rules.{startOf, viewOf}
-use Rattle.agree.specs.declared.new_view.Laid.{Laid}
 use Rattle.agree.specs.Starts.{layOf, laidOf}
 
 module _ (s : State) where

@@ -3,7 +3,6 @@ use crate::numbers::larger;
 use record_bytes::notices::write_notice;
 use records::Notice;
 use records::Proposal;
-ghost use mathlib.Core.Path.{_≡_};
 ghost use Prim.Native.Nat.{_<_};
 ghost use Rattle.rules.specs.Rules.{opens};
 ghost use Rattle.row.specs.Row.{Row, stateOf};

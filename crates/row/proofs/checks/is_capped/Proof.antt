@@ -8,23 +8,18 @@ use borrow.Author.Needs.{needs}
 use Rattle.row.proofs.checks.is_capped.Statement.{statement}
 use Rattle.row.proofs.checks.is_capped.Tie as tie
 
--- src/lib.rt:48:6
 shared-slice-read-result : tie.Need-shared-slice-read-result
 shared-slice-read-result c = search needs
 
--- src/lib.rt:48:34
 shared-slice-read-result-2 : tie.Need-shared-slice-read-result-2
 shared-slice-read-result-2 c = search needs
 
--- src/lib.rt:48:63
 shared-slice-read-result-3 : tie.Need-shared-slice-read-result-3
 shared-slice-read-result-3 c = search needs
 
--- src/lib.rt:48:90
 stored-digits-requires : tie.Need-stored-digits-requires
 stored-digits-requires c κs = search needs
 
--- src/lib.rt:44:1
 returns : tie.Need-returns
 returns c e =
     let c5 = c .before .before .before .before .before in
