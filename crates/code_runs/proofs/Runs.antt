@@ -1,4 +1,5 @@
--- From any row, and so from a fresh one: the words after a run hold the state after it, and what the code sent is what the rules send.
+-- From any row, and so from a fresh one: the words after a run hold the state after it, and what the code sent is
+-- what the rules send.
 use mathlib.Core.Path.{_≡_, refl, sym, ap, _∙_}
 use mathlib.Core.List.{List, [], _∷_, _++_, List·Memᴰ, List·Memᴰ·not-nil}
 use Prim.Native.Nat.{ℕ}
@@ -22,7 +23,8 @@ use Rattle.step.proofs.Holds.{step-holds}
 use Rattle.code_runs.specs.Rows.{Handed, rowAnswer, rowAfter, rowSent, inputsOf}
 
 module _ (ws : List ℕ) (h : Handed) (r : Row ws) where
-  held : Row (rowAnswer ws h .words) × (stateOf (rowAnswer ws h .words) ≡ stepOf (stateOf ws) (h .bytes) (h .room) .state)
+  held : Row (rowAnswer ws h .words)
+      × (stateOf (rowAnswer ws h .words) ≡ stepOf (stateOf ws) (h .bytes) (h .room) .state)
   held = step-holds ws (h .bytes) (h .room) r
 
   wrote : rowAnswer ws h .written ≡ stepOf (stateOf ws) (h .bytes) (h .room) .written
@@ -43,7 +45,8 @@ module _ (ws : List ℕ) (h : Handed) (r : Row ws) where
       go (no n) = absurd (List·Memᴰ·not-nil (rw (wrote, step-skips (stateOf ws) (h .bytes) (h .room) n .1) at m))
 
   -- one more record in front of a run
-  run-then : (hs : List Handed) → Holds (rowAfter (rowAnswer ws h .words) hs) (stateAfter (stateOf (rowAnswer ws h .words)) (inputsOf hs))
+  run-then : (hs : List Handed)
+      → Holds (rowAfter (rowAnswer ws h .words) hs) (stateAfter (stateOf (rowAnswer ws h .words)) (inputsOf hs))
       → Holds (rowAfter ws (h ∷ hs)) (stateAfter (stateOf ws) (inputsOf (h ∷ hs)))
   unfolding rowAfter runs answerTo inputsOf
   run-then hs rest = go (ℕ-discrete (checkOf (h .bytes)) 0)
@@ -54,10 +57,12 @@ module _ (ws : List ℕ) (h : Handed) (r : Row ws) where
           = held .1 ∙ ap (λ (q : Result). q .state) (step-takes (stateOf ws) (h .bytes) (h .room) z) in
           rw z (rw same at rest)
       go (no n) =
-          let same : stateOf (rowAnswer ws h .words) ≡ stateOf ws = held .1 ∙ step-skips (stateOf ws) (h .bytes) (h .room) n .0 in
+          let same : stateOf (rowAnswer ws h .words) ≡ stateOf ws =
+          held .1 ∙ step-skips (stateOf ws) (h .bytes) (h .room) n .0 in
           rw (ne-eqb (checkOf (h .bytes)) 0 n) (rw same at rest)
 
-  sent-then : (hs : List Handed) → rowSent (rowAnswer ws h .words) hs ≡ sentIn (logOf (stateOf (rowAnswer ws h .words)) (inputsOf hs))
+  sent-then : (hs : List Handed)
+      → rowSent (rowAnswer ws h .words) hs ≡ sentIn (logOf (stateOf (rowAnswer ws h .words)) (inputsOf hs))
       → rowSent ws (h ∷ hs) ≡ sentIn (logOf (stateOf ws) (inputsOf (h ∷ hs)))
   unfolding rowSent logOf sentIn answerTo inputsOf
   sent-then hs rest = go (ℕ-discrete (checkOf (h .bytes)) 0)
@@ -68,7 +73,8 @@ module _ (ws : List ℕ) (h : Handed) (r : Row ws) where
           let skips = step-skips (stateOf ws) (h .bytes) (h .room) n in
           rw (ne-eqb (checkOf (h .bytes)) 0 n, wrote, skips .1, rest, held .1, skips .0)
 
-pub row-run : (ws : List ℕ) (hs : List Handed) → Row ws → Holds (rowAfter ws hs) (stateAfter (stateOf ws) (inputsOf hs))
+pub row-run : (ws : List ℕ) (hs : List Handed) → Row ws
+    → Holds (rowAfter ws hs) (stateAfter (stateOf ws) (inputsOf hs))
 unfolding rowAfter runs inputsOf
 row-run ws [] r = (r, refl)
 row-run ws (h ∷ hs) r = run-then ws h r hs (row-run (rowAnswer ws h .words) hs (held ws h r .0))

@@ -29,4 +29,6 @@ rowSent ws (h ∷ hs) = rowAnswer ws h .written ++ rowSent (rowAnswer ws h .word
 -- what the office was handed: the events of the records; bytes that fail checks 4 and 5 hold none
 unfoldable pub inputsOf : List Handed → List Input
 inputsOf [] = []
-inputsOf (h ∷ hs) = ifb (eqb (checkOf (h .bytes)) 0) (record { event = eventOf (h .bytes); room = h .room } ∷ inputsOf hs) (inputsOf hs)
+inputsOf (h ∷ hs) =
+    ifb (eqb (checkOf (h .bytes)) 0) (record { event = eventOf (h .bytes); room = h .room } ∷ inputsOf hs)
+    (inputsOf hs)

@@ -13,5 +13,7 @@ seat-day = refl then refl then refl then refl then refl then refl then refl
 pub each-seat-reason : seatRefusals ≡ seatReasons
 unfolding seatRefusals seatReasons hearing
 each-seat-reason =
-    refl then refl then refl then refl then refl then refl then refl then refl then refl then refl then refl then refl then refl then refl then refl then refl then refl
-    then refl then refl then refl then refl then refl then refl then refl then refl then refl then refl then refl then refl then refl then refl then refl then refl
+    refl then refl then refl then refl then refl then refl then refl then refl then refl then refl then refl then refl
+    then refl then refl then refl then refl then refl
+    then refl then refl then refl then refl then refl then refl then refl then refl then refl then refl then refl
+    then refl then refl then refl then refl then refl

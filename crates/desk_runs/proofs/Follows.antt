@@ -1,4 +1,5 @@
--- What every accepted event keeps of an office and one of its seats, and that the seat accepts what the event sends it.
+-- What every accepted event keeps of an office and one of its seats, and that the seat accepts what the event sends
+-- it.
 use mathlib.Core.Path.{_≡_, refl, sym, ap, _∙_}
 use mathlib.Core.Bool.{Bool, true, false}
 use mathlib.Core.List.{List, []}
@@ -52,12 +53,14 @@ module _ (seat : ℕ) (lt : seat < seatCount) where
   abbrev OpenAt : Desk → State → Type 0
   OpenAt d s = (d .changing ≡ true) × (d .start ≡ s .start)
 
-  -- a change is under way: the start number has reached the view number, and the change is open at the seat if it is a member
+  -- a change is under way: the start number has reached the view number, and the change is open at the seat if it is
+  -- a member
   pub record Changing (d : Desk) (s : State) : Type 0 where
     pub reached : s .view .number ≤ s .start
     pub is-open : Member s → OpenAt d s
 
-  -- and in mode fast or slow a change is under way, and while the office has a seat in the net view the own proposal has the start number
+  -- and in mode fast or slow a change is under way, and while the office has a seat in the net view the own proposal
+  -- has the start number
   pub record Follows (d : Desk) (s : State) : Type 0 where
     pub behind : Behind d s
     pub changing : (s .mode ≡ None → ⊥) → Changing d s
@@ -70,7 +73,8 @@ module _ (seat : ℕ) (lt : seat < seatCount) where
   -- a member's office has a seat in the net view
   member-seated : {d : Desk} {s : State} → Behind d s → Member s → seated s ≡ true
   unfolding seated containsOf
-  member-seated {s} b m = rw (b .office) (seat-serves (s .net .bits) seat (and-r (ltb seat seatCount) (has (s .net .bits) seat) m))
+  member-seated {s} b m =
+      rw (b .office) (seat-serves (s .net .bits) seat (and-r (ltb seat seatCount) (has (s .net .bits) seat) m))
 
   -- the seat after the records of an outcome, none of which it refuses; it follows the state
   abbrev pub Follow : Desk → Outcome → Type 0
@@ -96,14 +100,16 @@ module _ (seat : ℕ) (lt : seat < seatCount) where
 
   net-behind : (d : Desk) (s : State) (x : ℕ) → x < 2 ^ 64 → Behind d s → Behind d (withNet s x)
   unfolding withNet
-  net-behind d s x l b = record { is-seat = b .is-seat; office = b .office; fits = l; start = b .start; view = b .view }
+  net-behind d s x l b =
+      record { is-seat = b .is-seat; office = b .office; fits = l; start = b .start; view = b .view }
 
   -- step 3: the notice is accepted where the seat is a member, and the change is then open at it
   record Opened (d : Desk) (s : State) : Type 0 where
     behind : Behind d s
     changing : Changing d s
 
-  opens-follow : (d : Desk) (s : State) → Behind d s → opened s .start ≤ limit → Beside (Hears seat) Opened d (opens s .written) (opened s)
+  opens-follow : (d : Desk) (s : State) → Behind d s → opened s .start ≤ limit
+      → Beside (Hears seat) Opened d (opens s .written) (opened s)
   unfolding opens opened noticeOf afterRecord
   opens-follow d s b low = go (containsOf (s .net .bits) seat) refl
     where
@@ -111,9 +117,11 @@ module _ (seat : ℕ) (lt : seat < seatCount) where
       rises = let x = b .start in let y = b .view in (omega arith, omega arith)
 
       sound : SoundDesk d
-      sound = let x = rises in let y = b .is-seat in record { seat = omega arith; start = omega arith; view = omega arith }
+      sound = let x = rises in let y = b .is-seat in
+          record { seat = omega arith; start = omega arith; view = omega arith }
 
-      opens-at : (e : Desk) → e .seat ≡ seat → e .start ≤ opened s .start → e .view ≤ s .view .number → (Member s → OpenAt e (opened s)) → Opened e (opened s)
+      opens-at : (e : Desk) → e .seat ≡ seat → e .start ≤ opened s .start → e .view ≤ s .view .number
+          → (Member s → OpenAt e (opened s)) → Opened e (opened s)
       opens-at e i x y t = record {
         behind = record { is-seat = i; office = b .office; fits = b .fits; start = x; view = y };
         changing = record { reached = omega arith; is-open = t };
@@ -137,32 +145,42 @@ module _ (seat : ℕ) (lt : seat < seatCount) where
   proposed-follows : (d : Desk) (m : Mode) (n : ℕ) (s : State) → Opened d s → Follows d (proposed m n s)
   proposed-follows d m n s h =
       let r = proposed-reads s m n in
-      let q = r .stored-is (s .own) (own-lt (h .behind)) ∙ upd-same (storedAt s) (s .own) (keeping (ownProposal m n s)) in
+      let q = r .stored-is (s .own) (own-lt (h .behind))
+      ∙ upd-same (storedAt s) (s .own) (keeping (ownProposal m n s)) in
       record {
         behind = same-behind r (h .behind);
         changing = λ y. same-changing r (h .changing);
-        own-start = λ y z. rw (r .own-is) (ap (λ (w : Slot). w .proposal .start) q ∙ made-is s m n .3 ∙ sym (r .start-is));
+        own-start = λ y z. rw (r .own-is) (ap (λ (w : Slot). w .proposal .start) q ∙ made-is s m n .3
+            ∙ sym (r .start-is));
       }
 
   -- a proposal of another office stored
-  received-follows : (d : Desk) (s : State) (p : Proposal) → (p .sender ≡ s .own → ⊥) → Follows d s → Follows d (received s p)
+  received-follows : (d : Desk) (s : State) (p : Proposal) → (p .sender ≡ s .own → ⊥) → Follows d s
+      → Follows d (received s p)
   received-follows d s p n f =
       let r = received-reads s p in
-      let q = r .stored-is (s .own) (own-lt (f .behind)) ∙ upd-other (storedAt s) (p .sender) (keeping p) (s .own) (λ e. n (sym e)) in
+      let q = r .stored-is (s .own) (own-lt (f .behind))
+      ∙ upd-other (storedAt s) (p .sender) (keeping p) (s .own) (λ e. n (sym e)) in
       let busy : (received s p .mode ≡ None → ⊥) → s .mode ≡ None → ⊥ = λ y e. y (r .mode-is ∙ e) in
       record {
         behind = same-behind r (f .behind);
         changing = λ y. same-changing r (f .changing (busy y));
-        own-start = λ y z. rw (r .own-is, r .start-is) (ap (λ (w : Slot). w .proposal .start) q ∙ f .own-start (busy y) (unfold seated in rw (r .net-is, r .own-is) at z));
+        own-start = λ y z. rw (r .own-is, r .start-is) (ap (λ (w : Slot). w .proposal .start) q
+            ∙ f .own-start (busy y) (unfold seated in rw (r .net-is, r .own-is) at z));
       }
 
   -- step 1, where the office is left without a seat
-  unseated-follows : (d : Desk) (s : State) (x : ℕ) → x < 2 ^ 64 → seated (withNet s x) ≡ false → Follows d s → Follows d (withNet s x)
+  unseated-follows : (d : Desk) (s : State) (x : ℕ) → x < 2 ^ 64 → seated (withNet s x) ≡ false → Follows d s
+      → Follows d (withNet s x)
   unseated-follows d s x l e f =
       let b : Behind d (withNet s x) = net-behind d s x l (f .behind) in
       record {
         behind = b;
-        changing = λ y. record { reached = unfold withNet in f .changing y .reached; is-open = λ m. absurd (true-false _ (member-seated b m) e) };
+        changing = λ y. record {
+          reached = unfold withNet in
+              f .changing y .reached;
+          is-open = λ m. absurd (true-false _ (member-seated b m) e);
+        };
         own-start = λ y z. absurd (true-false _ z e);
       }
 
@@ -223,7 +241,10 @@ module _ (seat : ℕ) (lt : seat < seatCount) where
       fits = record {
         number = let x = k .view in omega arith;
         members = b .fits;
-        starts = record { count = length-tab 16 (startOf s); each = sixteen-below (viewOf s .starts) (length-tab 16 (startOf s)) (k .starts) };
+        starts = record {
+          count = length-tab 16 (startOf s);
+          each = sixteen-below (viewOf s .starts) (length-tab 16 (startOf s)) (k .starts);
+        };
       }
 
       takes : TakesView d (viewOf s)
@@ -258,7 +279,8 @@ module _ (seat : ℕ) (lt : seat < seatCount) where
         go true m = heard m (well-facts (concluded s) w)
 
   -- one part of an event after another
-  follow-then : {d : Desk} {o : Outcome} (f : State → Outcome) (x : Follow d o) → Follow (x .then) (f (o .state)) → Follow d (andThen o f)
+  follow-then : {d : Desk} {o : Outcome} (f : State → Outcome) (x : Follow d o) → Follow (x .then) (f (o .state))
+      → Follow d (andThen o f)
   unfolding andThen
   follow-then f x y = record { then = y .then; told = hears-then seat (x .told) (y .told); holds = y .holds }
 
@@ -278,7 +300,8 @@ module _ (seat : ℕ) (lt : seat < seatCount) where
   slow-seated Fast s = refl
   slow-seated Slow s = refl
 
-  in-round : (d : Desk) (s : State) → (s .mode ≡ None → ⊥) → Follows d s → Follow d (andThen (nothingWritten s) proposesSlow)
+  in-round : (d : Desk) (s : State) → (s .mode ≡ None → ⊥) → Follows d s
+      → Follow d (andThen (nothingWritten s) proposesSlow)
   unfolding andThen proposesSlow
   in-round d s busy f = record {
     then = d;
@@ -286,7 +309,8 @@ module _ (seat : ℕ) (lt : seat < seatCount) where
     holds = proposed-follows d Slow (slowNumber s) s (record { behind = f .behind; changing = f .changing busy });
   }
 
-  slow-follows : (m : Mode) (d : Desk) (s : State) → s .mode ≡ m → Follows d s → slowly m s .state .start ≤ limit → Follow d (slowly m s)
+  slow-follows : (m : Mode) (d : Desk) (s : State) → s .mode ≡ m → Follows d s → slowly m s .state .start ≤ limit
+      → Follow d (slowly m s)
   unfolding andThen opens opened proposesSlow proposed
   slow-follows None d s e f low =
       let x = opens-follow d s (f .behind) low in
@@ -298,7 +322,8 @@ module _ (seat : ℕ) (lt : seat < seatCount) where
   slow-follows Fast d s e f low = in-round d s (λ n. let z : _≡_ {A = ℕ} 0 1 = cc in omega arith) f
   slow-follows Slow d s e f low = in-round d s (λ n. let z : _≡_ {A = ℕ} 0 1 = cc in omega arith) f
 
-  -- between the parts: the office has a seat in the net view, and the seat follows unless the start number is above L, which 13 refuses
+  -- between the parts: the office has a seat in the net view, and the seat follows unless the start number is above
+  -- L, which 13 refuses
   record Between (d : Desk) (o : Outcome) : Type 0 where
     seat-in : seated (o .state) ≡ true
     follow : o .state .start ≤ limit → Follow d o
@@ -333,20 +358,23 @@ module _ (seat : ℕ) (lt : seat < seatCount) where
         record {
           then = x .then;
           told = hears-then seat (x .told)
-              (if-cases (λ (ws : List Written). Hears seat (x .then) ws (x .then)) (hasRecipient (ownProposal Fast (nextNumber (opened t)) (opened t))) _ _
+              (if-cases (λ (ws : List Written). Hears seat (x .then) ws (x .then))
+              (hasRecipient (ownProposal Fast (nextNumber (opened t)) (opened t))) _ _
               (λ e. passes refl at-end) (λ e. at-end));
           holds = proposed-follows (x .then) Fast (nextNumber (opened t)) (opened t) (x .holds);
         };
   }
 
-  report-follows : (d : Desk) (s : State) (r : Report) → FitsReport r → Follows d s → wellFormed (reportRule s r .state) ≡ true → Follow d (reportRule s r)
+  report-follows : (d : Desk) (s : State) (r : Report) → FitsReport r → Follows d s
+      → wellFormed (reportRule s r .state) ≡ true → Follow d (reportRule s r)
   report-follows d s r t f = staged-report (stages d) s r (λ e w. stays f)
       (λ e w. stays (unseated-follows d s _ net e f)) (λ e. round-follows d _ (net-behind d s _ net (f .behind)) e)
     where
       net : netAfter (s .net .bits) r < 2 ^ 64
       net = unfold netAfter in without-lt _ _ (union-lt _ _ (f .behind .fits) (t .joining))
 
-  proposal-follows : (d : Desk) (s : State) (p : Proposal) → Passes s p → Follows d s → wellFormed (proposalRule s p .state) ≡ true → Follow d (proposalRule s p)
+  proposal-follows : (d : Desk) (s : State) (p : Proposal) → Passes s p → Follows d s
+      → wellFormed (proposalRule s p .state) ≡ true → Follow d (proposalRule s p)
   proposal-follows d s p c f =
       let g = received-follows d s p (c .other) f in
       staged-proposal (stages d) s p (λ e w. stays g)
@@ -357,7 +385,8 @@ module _ (seat : ℕ) (lt : seat < seatCount) where
   FitsEvent (aReport r) = FitsReport r
   FitsEvent (aProposal p) = Unit {0}
 
-  pub event-follows : (d : Desk) (s : State) (e : Event) → FitsEvent e → refusalOf s e ≡ 0 → wellFormed (ruleOf s e .state) ≡ true → Follows d s
+  pub event-follows : (d : Desk) (s : State) (e : Event) → FitsEvent e → refusalOf s e ≡ 0
+      → wellFormed (ruleOf s e .state) ≡ true → Follows d s
       → Follow d (ruleOf s e)
   event-follows d s (aReport r) t z w f = report-follows d s r t f w
   event-follows d s (aProposal p) t z w f = proposal-follows d s p (check-facts s p z) f w

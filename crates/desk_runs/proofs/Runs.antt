@@ -1,5 +1,5 @@
--- Over every run of one office from fresh: a fresh seat of the office accepts every notice and view whose members hold it, in the order sent,
--- whether or not it left and came back in between.
+-- Over every run of one office from fresh: a fresh seat of the office accepts every notice and view whose members
+-- hold it, in the order sent, whether or not it left and came back in between.
 use mathlib.Core.Path.{_≡_, refl}
 use mathlib.Core.List.{List}
 use mathlib.Core.Logic.{_⊎_, inl, inr}
@@ -48,15 +48,18 @@ module _ (seat : ℕ) (lt : seat < seatCount) where
       Is : Result → Type 0
       Is r = Beside-it d (r .written) (r .state)
 
-      go : Refused s (takeOf s (h .event) (h .room)) ⊎ Takes s (h .event) (h .room) → Is (takeOf s (h .event) (h .room))
+      go : Refused s (takeOf s (h .event) (h .room)) ⊎ Takes s (h .event) (h .room)
+          → Is (takeOf s (h .event) (h .room))
       go (inl r) = rw (r .is) (record { then = d; told = at-end; holds = f })
       go (inr a) =
           rw (take-accepts s (h .event) (h .room) a)
           (event-follows seat lt d s (h .event) (sets-fit (h .event) y) (a .acts .passes) (a .acts .within) f)
 
   -- from any state that the seat follows; a fresh start is not needed
-  pub run-heard : (d : Desk) (s : State) (hs : List Input) → Every (λ h. OfSeats (h .event)) hs → Follows seat lt d s → Beside-it d (sentIn (logOf s hs)) (stateAfter s hs)
-  run-heard = beside-run (Hears seat) (Follows seat lt) (λ d. at-end) (λ c d e a b. hears-then seat) (λ h. OfSeats (h .event)) next-heard
+  pub run-heard : (d : Desk) (s : State) (hs : List Input) → Every (λ h. OfSeats (h .event)) hs → Follows seat lt d s
+      → Beside-it d (sentIn (logOf s hs)) (stateAfter s hs)
+  run-heard = beside-run (Hears seat) (Follows seat lt) (λ d. at-end) (λ c d e a b. hears-then seat)
+      (λ h. OfSeats (h .event)) next-heard
 
   -- a fresh seat follows a fresh office
   fresh-follows : Follows seat lt (freshDesk seat) (fresh (officeOf seat))
@@ -64,7 +67,14 @@ module _ (seat : ℕ) (lt : seat < seatCount) where
   fresh-follows =
       let r = fresh-reads (officeOf seat) in
       record {
-        behind = record { is-seat = refl; office = r .own-is; fits = let x = r .net-is in omega arith; start = omega arith; view = omega arith };
+        behind = record {
+          is-seat = refl;
+          office = r .own-is;
+          fits = let x = r .net-is in
+              omega arith;
+          start = omega arith;
+          view = omega arith;
+        };
         changing = λ y. absurd (y (r .mode-is));
         own-start = λ y. absurd (y (r .mode-is));
       }
@@ -74,7 +84,8 @@ module _ (seat : ℕ) (lt : seat < seatCount) where
     abbrev sent : List Written
     sent = sentTo seat (sentIn (logOf (fresh (officeOf seat)) hs))
 
-    abbrev heard : Beside-it (freshDesk seat) (sentIn (logOf (fresh (officeOf seat)) hs)) (stateAfter (fresh (officeOf seat)) hs)
+    abbrev heard : Beside-it (freshDesk seat) (sentIn (logOf (fresh (officeOf seat)) hs))
+        (stateAfter (fresh (officeOf seat)) hs)
     heard = run-heard (freshDesk seat) (fresh (officeOf seat)) hs y fresh-follows
 
     pub every-accepted : Every (λ h. h .refusal ≡ 0) (hearings (freshDesk seat) sent)

@@ -1,4 +1,5 @@
--- Along every run of one office from fresh: the sync record that a seat makes after the last notice before a view counts for that view.
+-- Along every run of one office from fresh: the sync record that a seat makes after the last notice before a view
+-- counts for that view.
 use mathlib.Core.Path.{_≡_, refl, sym, ap, _∙_}
 use mathlib.Core.Bool.{true, false, true≢false}
 use mathlib.Core.List.{List, [], _∷_, _++_, map, map-append, concat, concat-eq-append, eq-nil-or-concat}
@@ -55,21 +56,30 @@ made-good d s = record {
 }
 
 -- it counts for a view that the seat accepts
-made-counts : (d : Desk) (b : List ℕ) → TookView d b → counts (decodeView b) (d .seat) (decodeSync (syncBytes d)) ≡ true
+made-counts : (d : Desk) (b : List ℕ) → TookView d b
+    → counts (decodeView b) (d .seat) (decodeSync (syncBytes d)) ≡ true
 unfolding counts syncOf
-made-counts d b t = rw (sync-read d (t .sound), eq-eqb (d .seat) (d .seat) refl, eq-eqb (d .start) (startFor (decodeView b) (d .seat)) (sym (t .own)))
+made-counts d b t =
+    rw (
+      sync-read d (t .sound),
+      eq-eqb (d .seat) (d .seat) refl,
+      eq-eqb (d .start) (startFor (decodeView b) (d .seat)) (sym (t .own)),
+    )
 
 -- records heard in two parts
 hearings-append : (d : Desk) (a b : List Written) → hearings d (a ++ b) ≡ hearings d a ++ hearings (deskAfter d a) b
 unfolding hearings runs
 hearings-append d [] b = refl
-hearings-append d (w ∷ a) b = ap (λ (l : List Heard). hearOf d (bytesOf w) ∷ l) (hearings-append (hearOf d (bytesOf w) .desk) a b)
+hearings-append d (w ∷ a) b =
+    ap (λ (l : List Heard). hearOf d (bytesOf w) ∷ l) (hearings-append (hearOf d (bytesOf w) .desk) a b)
 
 -- what is sent to a seat is for it
 all-for : (seat : ℕ) (ws : List Written) → Every (λ w. forSeat seat w ≡ true) (sentTo seat ws)
 unfolding sentTo
 all-for seat [] = none
-all-for seat (w ∷ ws) = if-cases (Every (λ w. forSeat seat w ≡ true)) (forSeat seat w) _ _ (λ e. more e (all-for seat ws)) (λ e. all-for seat ws)
+all-for seat (w ∷ ws) =
+    if-cases (Every (λ w. forSeat seat w ≡ true)) (forSeat seat w) _ _ (λ e. more e (all-for seat ws))
+    (λ e. all-for seat ws)
 
 module _ (seat : ℕ) where
   same-seat : (ws : List Written) → deskAfter (freshDesk seat) ws .seat ≡ seat
@@ -77,10 +87,12 @@ module _ (seat : ℕ) where
   same-seat ws = runs-keep _ (λ d. d .seat ≡ seat) (λ d w e. seat-stays d (bytesOf w) ∙ e) (freshDesk seat) ws refl
 
   -- records heard up to one more that is accepted
-  heard-last : (a b : List Written) (w : Written) → Every (λ h. h .refusal ≡ 0) (hearings (freshDesk seat) (a ++ (w ∷ b)))
+  heard-last : (a b : List Written) (w : Written)
+      → Every (λ h. h .refusal ≡ 0) (hearings (freshDesk seat) (a ++ (w ∷ b)))
       → hearOf (deskAfter (freshDesk seat) a) (bytesOf w) .refusal ≡ 0
   unfolding hearings
-  heard-last a b w e = every-head (every-split (hearings (freshDesk seat) a) (rw (hearings-append (freshDesk seat) a (w ∷ b)) at e) .1)
+  heard-last a b w e =
+      every-head (every-split (hearings (freshDesk seat) a) (rw (hearings-append (freshDesk seat) a (w ∷ b)) at e) .1)
 
   -- a view that is accepted leaves no change open
   closed : (a : List Written) (v : View) → Every (λ h. h .refusal ≡ 0) (hearings (freshDesk seat) (a ++ (view v ∷ [])))
@@ -91,8 +103,10 @@ module _ (seat : ℕ) where
       ∙ took-view (deskAfter (freshDesk seat) a) (encodeView v) (view-other v) (heard-last a [] (view v) e) .closes
 
   -- an open change: the last record heard is a notice, where each is for the seat and accepted
-  last-notice : (ws : List Written) → Every (λ w. forSeat seat w ≡ true) ws → Every (λ h. h .refusal ≡ 0) (hearings (freshDesk seat) ws)
-      → deskAfter (freshDesk seat) ws .changing ≡ true → (a : List Written) × (n : Notice) × (ws ≡ a ++ (notice n ∷ []))
+  last-notice : (ws : List Written) → Every (λ w. forSeat seat w ≡ true) ws
+      → Every (λ h. h .refusal ≡ 0) (hearings (freshDesk seat) ws)
+      → deskAfter (freshDesk seat) ws .changing ≡ true → (a : List Written) × (n : Notice)
+      × (ws ≡ a ++ (notice n ∷ []))
   unfolding freshDesk runs
   last-notice ws for-it taken changing = go (eq-nil-or-concat ws)
     where
@@ -100,7 +114,8 @@ module _ (seat : ℕ) where
       End = (a : List Written) × (n : Notice) × (ws ≡ a ++ (notice n ∷ []))
 
       open-there : (l : List Written) → ws ≡ l → deskAfter (freshDesk seat) l .changing ≡ false → End
-      open-there l e c = absurd (true≢false (sym changing ∙ ap (λ (k : List Written). deskAfter (freshDesk seat) k .changing) e ∙ c))
+      open-there l e c =
+          absurd (true≢false (sym changing ∙ ap (λ (k : List Written). deskAfter (freshDesk seat) k .changing) e ∙ c))
 
       by-last : (a : List Written) (w : Written) → ws ≡ a ++ (w ∷ []) → End
       by-last a (notice n) e = (a, n, e)
@@ -112,13 +127,18 @@ module _ (seat : ℕ) where
       go (inr w) = by-last (w .0) (w .1) (w .2 ∙ concat-eq-append (w .0) (w .1))
 
 module _ (seat : ℕ) (lt : seat < seatCount) (hs : List Input) (y : Every (λ h. OfSeats (h .event)) hs) where
-  pub sync-counts : (heard later : List Written) (v : View) → sentTo seat (sentIn (logOf (fresh (officeOf seat)) hs)) ≡ heard ++ (view v ∷ later)
+  pub sync-counts : (heard later : List Written) (v : View)
+      → sentTo seat (sentIn (logOf (fresh (officeOf seat)) hs)) ≡ heard ++ (view v ∷ later)
       → SyncFor seat heard v
   sync-counts heard later v e =
       let d = deskAfter (freshDesk seat) heard in
-      let accepted : Every (λ h. h .refusal ≡ 0) (hearings (freshDesk seat) (heard ++ (view v ∷ later))) = rw e at (every-accepted seat lt hs y) in
-      let all : Every (λ w. forSeat seat w ≡ true) (heard ++ (view v ∷ later)) = rw e at (all-for seat (sentIn (logOf (fresh (officeOf seat)) hs))) in
-      let before : Every (λ h. h .refusal ≡ 0) (hearings (freshDesk seat) heard) = every-split (hearings (freshDesk seat) heard) (rw (hearings-append (freshDesk seat) heard (view v ∷ later)) at accepted) .0 in
+      let accepted : Every (λ h. h .refusal ≡ 0) (hearings (freshDesk seat) (heard ++ (view v ∷ later))) =
+      rw e at (every-accepted seat lt hs y) in
+      let all : Every (λ w. forSeat seat w ≡ true) (heard ++ (view v ∷ later)) =
+      rw e at (all-for seat (sentIn (logOf (fresh (officeOf seat)) hs))) in
+      let before : Every (λ h. h .refusal ≡ 0) (hearings (freshDesk seat) heard) =
+      every-split (hearings (freshDesk seat) heard)
+      (rw (hearings-append (freshDesk seat) heard (view v ∷ later)) at accepted) .0 in
       let t = took-view d (encodeView v) (view-other v) (heard-last seat heard later (view v) accepted) in
       let n = last-notice seat heard (every-split heard all .0) before (t .changing) in
       record {
@@ -126,16 +146,19 @@ module _ (seat : ℕ) (lt : seat < seatCount) (hs : List Input) (y : Every (λ h
         last = n .1;
         after-notice = n .2;
         good = made-good d (t .sound);
-        for-view = sym (ap (λ (k : ℕ). counts (decodeView (encodeView v)) k (decodeSync (syncBytes d))) (same-seat seat heard)) ∙ made-counts d (encodeView v) t;
+        for-view = sym (ap (λ (k : ℕ). counts (decodeView (encodeView v)) k (decodeSync (syncBytes d)))
+            (same-seat seat heard)) ∙ made-counts d (encodeView v) t;
       }
 
 -- so a desk that has put its record on the sheet is never told that its own is missing
-module _ (seat : ℕ) (heard : List Written) (v : View) (ready : SyncFor seat heard v) (sheet : List ℕ) (a b : List (List ℕ))
+module _ (seat : ℕ) (heard : List Written) (v : View) (ready : SyncFor seat heard v) (sheet : List ℕ)
+    (a b : List (List ℕ))
     (on-sheet : recordsOn sheet ≡ a ++ (syncAfter seat heard ∷ b)) (previous : ℕ) where
   abbrev shown : View
   shown = decodeView (bytesOf (view v))
 
-  told-missing : (rs : List Sync) → rs ≡ map decodeSync (recordsOn sheet) → Tells shown rs previous (answers.Missing seat) → ⊥
+  told-missing : (rs : List Sync) → rs ≡ map decodeSync (recordsOn sheet)
+      → Tells shown rs previous (answers.Missing seat) → ⊥
   told-missing rs e (missing-seat m) =
       let all : NoneCounts shown seat (map decodeSync a ++ (decodeSync (syncAfter seat heard) ∷ map decodeSync b)) =
       rw (e, on-sheet, map-append decodeSync a (syncAfter seat heard ∷ b)) at (m .none-counts) in

@@ -9,7 +9,8 @@ use Rattle.laws.specs.Bit.{bit}
 use Rattle.seats.specs.Seats.{has, containsOf}
 use Rattle.seats.specs.Offices.{officeOf, serves}
 use Rattle.records.specs.Numbers.{limit}
-use Rattle.records.specs.Layout.{encodeReport, encodeProposal, encodeNotice, encodeView, decodeNotice, decodeView, markOf, checkFor, checkEither}
+use Rattle.records.specs.Layout.{encodeReport, encodeProposal, encodeNotice, encodeView, decodeNotice, decodeView}
+use Rattle.records.specs.Layout.{markOf, checkFor, checkEither}
 use Rattle.rules.specs.State.{fast}
 use Rattle.rules.specs.Rules.{fresh}
 use Rattle.rules.specs.Refusals.{fullRoom, eventOf}
@@ -39,21 +40,31 @@ abbrev handed : List ℕ → Input
 handed b = record { event = eventOf b; room = fullRoom }
 
 abbrev reports : ℕ → ℕ → Input
-reports joining leaving = handed (encodeReport (record { joining = record { bits = joining }; leaving = record { bits = leaving } }))
+reports joining leaving =
+    handed (encodeReport (record { joining = record { bits = joining }; leaving = record { bits = leaving } }))
 
 abbrev office1 : ℕ → ℕ → ℕ → ℕ → Input
 office1 start number used0 used1 =
     handed
-    (encodeProposal (record { sender = 1; kind = fast; members = record { bits = both }; start = start; number = number; used = three used0 used1 0 }))
+    (encodeProposal (record {
+      sender = 1;
+      kind = fast;
+      members = record { bits = both };
+      start = start;
+      number = number;
+      used = three used0 used1 0;
+    }))
 
--- that day: seat 0 joins (A), seat 4 joins (B), office 1 proposes (C); seat 0 leaves, it comes back, and office 1, which has had a view of seat 4
--- alone, proposes
+-- that day: seat 0 joins (A), seat 4 joins (B), office 1 proposes (C); seat 0 leaves, it comes back, and office 1,
+-- which has had a view of seat 4 alone, proposes
 unfoldable pub thatDay : List Input
-thatDay = reports seat0 0 ∷ reports seat4 0 ∷ office1 1 1 0 0 ∷ reports 0 seat0 ∷ reports seat0 0 ∷ office1 4 3 2 2 ∷ []
+thatDay = reports seat0 0 ∷ reports seat4 0 ∷ office1 1 1 0 0 ∷ reports 0 seat0 ∷ reports seat0 0 ∷ office1 4 3 2 2
+    ∷ []
 
 -- what comes of bytes at a seat; to unfold it is to unfold the seat's rules
 unfoldable pub hearing : Desk → List ℕ → Heard
-unfolding anyb tab bytesAll bit has containsOf officeOf serves encodeNotice encodeView decodeNotice decodeView markOf checkFor checkEither freshDesk
+unfolding anyb tab bytesAll bit has containsOf officeOf serves encodeNotice encodeView decodeNotice decodeView markOf
+    checkFor checkEither freshDesk
     madeDesk seatRecordOf tooHigh lacksSeat seatChecks hearChecks afterRecord hearOf
 hearing d b = hearOf d b
 
@@ -62,7 +73,8 @@ computedDay = hearings (freshDesk 0) (sentTo 0 (sentIn (logOf (fresh 0) thatDay)
 
 -- seat 0 after an accepted record: the last start number, the last view number, whether a change is open
 abbrev after : ℕ → ℕ → Bool → Heard
-after start view changing = record { refusal = 0; desk = record { seat = 0; start = start; view = view; changing = changing } }
+after start view changing =
+    record { refusal = 0; desk = record { seat = 0; start = start; view = view; changing = changing } }
 
 unfoldable pub statedDay : List Heard
 statedDay =
@@ -86,7 +98,8 @@ abbrev noticed : ℕ → ℕ → List ℕ
 noticed start members = encodeNotice (record { start = start; members = record { bits = members } })
 
 abbrev viewed : ℕ → ℕ → List ℕ → List ℕ
-viewed number members starts = encodeView (record { number = number; members = record { bits = members }; starts = starts })
+viewed number members starts =
+    encodeView (record { number = number; members = record { bits = members }; starts = starts })
 
 abbrev answer : Desk → List ℕ → ℕ
 answer d b = hearing d b .refusal
@@ -103,7 +116,8 @@ seatRefusals =
     madeDesk 64 .refusal ∷ madeDesk 63 .refusal
     ∷ answer (at 64 2 2 true) (noticed 3 both) ∷ answer (at 64 2 2 true) []
     ∷ answer rests [] ∷ answer rests (0x4e ∷ 0x45 ∷ []) ∷ answer (at 0 (limit + 1) 2 true) []
-    ∷ answer rests (noticed 3 both ++ (0 ∷ [])) ∷ answer waits (0x56 ∷ 0x57 ∷ []) ∷ answer (at 0 2 (limit + 1) true) (0x53 ∷ 0x43 ∷ [])
+    ∷ answer rests (noticed 3 both ++ (0 ∷ [])) ∷ answer waits (0x56 ∷ 0x57 ∷ [])
+    ∷ answer (at 0 2 (limit + 1) true) (0x53 ∷ 0x43 ∷ [])
     ∷ answer rests (noticed (limit + 1) both) ∷ answer waits (viewed (limit + 1) both (three 2 1 0))
     ∷ answer waits (viewed 3 both (three 2 (limit + 1) 0))
     ∷ answer (at 0 (limit + 1) 2 false) (noticed 3 both) ∷ answer (at 0 2 (limit + 1) false) (noticed 3 both)
@@ -112,9 +126,11 @@ seatRefusals =
     ∷ answer waits (viewed 3 seat4 (three 0 1 1)) ∷ answer rests (noticed 2 seat4)
     ∷ answer waits (viewed 3 both (three 2 1 1)) ∷ answer rests (viewed 3 both (three 2 1 1))
     ∷ answer rests (noticed 2 both) ∷ answer (freshDesk 0) (noticed 0 both) ∷ answer (at 0 2 4 false) (noticed 3 both)
-    ∷ answer rests (viewed 3 both (three 2 1 0)) ∷ answer waits (viewed 4 both (three 3 1 0)) ∷ answer rests (viewed 2 both (three 2 1 0))
+    ∷ answer rests (viewed 3 both (three 2 1 0)) ∷ answer waits (viewed 4 both (three 3 1 0))
+    ∷ answer rests (viewed 2 both (three 2 1 0))
     ∷ answer waits (viewed 2 both (three 2 1 0))
-    ∷ answer rests (noticed 3 both) ∷ answer (at 0 2 3 false) (noticed 3 both) ∷ answer waits (viewed 3 both (three 2 1 0))
+    ∷ answer rests (noticed 3 both) ∷ answer (at 0 2 3 false) (noticed 3 both)
+    ∷ answer waits (viewed 3 both (three 2 1 0))
     ∷ []
 
 unfoldable pub seatReasons : List ℕ
@@ -125,7 +141,8 @@ seatReasons =
     ∷ 4 ∷ 4 ∷ 4
     -- a notice with a byte more, a view's mark alone; before 8 by the seat's state
     ∷ 5 ∷ 5 ∷ 5
-    -- above L: a notice's number, a view's, one of its start numbers; the seat's start number and view number; before 9
+    -- above L: a notice's number, a view's, one of its start numbers; the seat's start number and view number; before
+    -- 9
     ∷ 8 ∷ 8 ∷ 8 ∷ 8 ∷ 8 ∷ 8
     -- members without the seat: of a notice, of a view; before 10; before 14
     ∷ 9 ∷ 9 ∷ 9 ∷ 9

@@ -18,7 +18,8 @@ use Rattle.desk_runs.specs.Sent.{deskAfter}
 abbrev pub syncAfter : ℕ → List Written → List ℕ
 syncAfter seat heard = syncBytes (deskAfter (freshDesk seat) heard)
 
--- the last of the records heard is a notice, and the sync record made then is not bad and counts for the view, as its bytes are read
+-- the last of the records heard is a notice, and the sync record made then is not bad and counts for the view, as its
+-- bytes are read
 pub record SyncFor (seat : ℕ) (heard : List Written) (v : View) : Type 0 where
   pub earlier : List Written
   pub last : Notice

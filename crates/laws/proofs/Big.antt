@@ -17,7 +17,8 @@ flat4 : (x q r s a b c d : ℕ) → q * 256 + d ≡ x → r * 256 + c ≡ q → 
     → a * 2 ^ 24 + b * 2 ^ 16 + c * 2 ^ 8 + d ≡ x
 flat4 x q r s a b c d e f g h = omega arith
 
-pub digits4 : (x : ℕ) → x < 2 ^ 32 → x / 2 ^ 24 % 256 * 2 ^ 24 + x / 2 ^ 16 % 256 * 2 ^ 16 + x / 2 ^ 8 % 256 * 2 ^ 8 + x % 256 ≡ x
+pub digits4 : (x : ℕ) → x < 2 ^ 32
+    → x / 2 ^ 24 % 256 * 2 ^ 24 + x / 2 ^ 16 % 256 * 2 ^ 16 + x / 2 ^ 8 % 256 * 2 ^ 8 + x % 256 ≡ x
 digits4 x h =
     flat4 x (x / 2 ^ 8) (x / 2 ^ 16) (x / 2 ^ 24) _ _ _ _ (omega arith) (omega arith) (omega arith) (omega arith)
 
@@ -96,7 +97,8 @@ sets-front o v h = ap (take (length v)) (sets-eq v o 0 (omega arith)) ∙ take-a
 
 pub sets-rest : (o v : List ℕ) → length v ≤ length o → drop (length v) (sets o 0 v) ≡ drop (length v) o
 sets-rest o v h =
-    ap (drop (length v)) (sets-eq v o 0 (omega arith)) ∙ drop-append-seam v _ ∙ ap (λ (n : ℕ). drop n o) (zero-add (length v))
+    ap (drop (length v)) (sets-eq v o 0 (omega arith)) ∙ drop-append-seam v _
+    ∙ ap (λ (n : ℕ). drop n o) (zero-add (length v))
 
 -- the numbers behind the bytes a, read back
 big4-append : (a l : List ℕ) (i : ℕ) → big4 (a ++ l) (length a + i) ≡ big4 l i
@@ -111,9 +113,11 @@ all-at [] k lt h = absurd (omega arith)
 all-at (x ∷ l) zero lt h = digits4 x (h 0)
 all-at (x ∷ l) (suc k) lt h =
     let e : 4 * suc k ≡ 4 + 4 * k = omega arith in
-    ap (big4 (bytesAll (x ∷ l))) e ∙ big4-append (bytes4 x) (bytesAll l) (4 * k) ∙ all-at l k (omega arith) (λ j. h (suc j))
+    ap (big4 (bytesAll (x ∷ l))) e ∙ big4-append (bytes4 x) (bytesAll l) (4 * k)
+    ∙ all-at l k (omega arith) (λ j. h (suc j))
 
-pub all-back : (a l : List ℕ) (n : ℕ) → length l ≡ n → Below (2 ^ 32) l → tab n (λ k. big4 (a ++ bytesAll l) (length a + 4 * k)) ≡ l
+pub all-back : (a l : List ℕ) (n : ℕ) → length l ≡ n → Below (2 ^ 32) l
+    → tab n (λ k. big4 (a ++ bytesAll l) (length a + 4 * k)) ≡ l
 all-back a l n e h =
     sym (filled n (λ k. big4 (a ++ bytesAll l) (length a + 4 * k)) 0 l e
     (λ k lt. sym (big4-append a (bytesAll l) (4 * k) ∙ all-at l k (rw e lt) h)))
@@ -127,7 +131,8 @@ bytes-back (suc n) at b h =
     let z : at + 0 ≡ at = omega arith in
     let e : suc (suc (suc (suc (4 * n)))) ≡ 4 * suc n = omega arith in
     let front : bytes4 (big4 b (at + 0)) ≡ tab 4 (λ k. getD b (at + k) 0) = rw z (big4-back b h at) in
-    let rest : bytesAll (tab n (λ k. big4 b (at + 4 * suc k))) ≡ tab (4 * n) (λ k. getD b (at + suc (suc (suc (suc k)))) 0) =
+    let rest : bytesAll (tab n (λ k. big4 b (at + 4 * suc k))) ≡ tab (4 * n)
+    (λ k. getD b (at + suc (suc (suc (suc k)))) 0) =
     ap (λ (f : ℕ → ℕ). bytesAll (tab n f)) (fun-ext (λ (k : ℕ). ap (big4 b) (four k)))
     ∙ bytes-back n (at + 4) b h
     ∙ ap (tab (4 * n)) (fun-ext (λ (k : ℕ). ap (λ (j : ℕ). getD b j 0) (one k))) in

@@ -71,7 +71,8 @@ unfolding bit
 bit-shr zero x = ap (λ (n : ℕ). n % 2) (omega arith)
 bit-shr (suc t) x =
     bit-shr t (x / 2)
-    ∙ ap (λ (n : ℕ). n % 2) (div-div-eq-div-mul x 2 (2 ^ t) ∙ ap (λ (n : ℕ). x / n) (mul-comm 2 (2 ^ t) ∙ sym (pow-suc 2 t)))
+    ∙ ap (λ (n : ℕ). n % 2) (div-div-eq-div-mul x 2 (2 ^ t)
+    ∙ ap (λ (n : ℕ). x / n) (mul-comm 2 (2 ^ t) ∙ sym (pow-suc 2 t)))
 
 no-bits : (b : ℕ) → ((t : ℕ) → bit b t ≡ 0) → b ≡ 0
 unfolding bit
@@ -90,9 +91,11 @@ bit-ext =
 -- digit t of (x >> k)
 pub bit-shift : (k x t : ℕ) → bit (x / 2 ^ k) t ≡ bit x (k + t)
 unfolding bit
-bit-shift zero x t = let a : x / 1 ≡ x = omega arith in let b : t ≡ 0 + t = omega arith in ap (λ (n : ℕ). bit n t) a ∙ ap (bit x) b
+bit-shift zero x t = let a : x / 1 ≡ x = omega arith in let b : t ≡ 0 + t = omega arith in
+    ap (λ (n : ℕ). bit n t) a ∙ ap (bit x) b
 bit-shift (suc k) x t =
-    let a : x / 2 ^ suc k ≡ x / 2 / 2 ^ k = sym (div-div-eq-div-mul x 2 (2 ^ k) ∙ ap (λ (n : ℕ). x / n) (mul-comm 2 (2 ^ k) ∙ sym (pow-suc 2 k))) in
+    let a : x / 2 ^ suc k ≡ x / 2 / 2 ^ k =
+    sym (div-div-eq-div-mul x 2 (2 ^ k) ∙ ap (λ (n : ℕ). x / n) (mul-comm 2 (2 ^ k) ∙ sym (pow-suc 2 k))) in
     let b : suc (k + t) ≡ suc k + t = omega arith in
     ap (λ (n : ℕ). bit n t) a ∙ bit-shift k (x / 2) t ∙ ap (bit x) b
 

@@ -7,13 +7,15 @@ use native.Mathlib.Omega.{arith}
 use native.Mathlib.Numerals.{add-one}
 use native.Mathlib.Decide.{ℕ-discrete, decLt}
 use lib.Dec.{ltb, leb, eqb}
-use borrow.Author.Tests.{ltb-true, ltb-false, leb-true, leb-false, eqb-true, eqb-false, not-true, not-false, lt-ltb, le-ltb, le-leb, lt-leb, eq-eqb, ne-eqb}
+use borrow.Author.Tests.{ltb-true, ltb-false, leb-true, leb-false, eqb-true, eqb-false, not-true, not-false, lt-ltb}
+use borrow.Author.Tests.{le-ltb, le-leb, lt-leb, eq-eqb, ne-eqb}
 use Rattle.laws.specs.Upd.{upd, ifb}
 use Rattle.laws.proofs.Upd.{upd-same, upd-other, upd-cases}
 use Rattle.laws.specs.Fin.{allb, anyb, largest, sum}
 
 -- P holds of a choice if it does on both sides
-pub if-cases {ℓ} : {A : Type 0} (P : A → Type ℓ) (t : Bool) (a b : A) → (t ≡ true → P a) → (t ≡ false → P b) → P (ifb t a b)
+pub if-cases {ℓ} : {A : Type 0} (P : A → Type ℓ) (t : Bool) (a b : A) → (t ≡ true → P a) → (t ≡ false → P b)
+    → P (ifb t a b)
 if-cases P true a b f g = f refl
 if-cases P false a b f g = g refl
 
@@ -149,8 +151,20 @@ allb-iff n p = (allb-out n p, allb-in n p)
 pub anyb-iff : (n : ℕ) (p : ℕ → Bool) → (anyb n p ≡ false) ↔ ((k : ℕ) → k < n → p k ≡ false)
 anyb-iff n p = (anyb-none n p, none-anyb n p)
 
-pub ruleset as-facts =
-    (and-iff, or-iff, not-true-iff, not-false-iff, leb-iff, leb-not-iff, ltb-iff, ltb-not-iff, eqb-iff, eqb-not-iff, allb-iff, anyb-iff)
+pub ruleset as-facts = (
+  and-iff,
+  or-iff,
+  not-true-iff,
+  not-false-iff,
+  leb-iff,
+  leb-not-iff,
+  ltb-iff,
+  ltb-not-iff,
+  eqb-iff,
+  eqb-not-iff,
+  allb-iff,
+  anyb-iff,
+)
 
 -- it is one of them
 pub largest-max : (n : ℕ) (f : ℕ → ℕ) → 0 < n → (k : ℕ) × (k < n) × (largest n f ≡ f k)
@@ -177,7 +191,8 @@ largest-le (suc n) f k h = go (ℕ-discrete k n) (largest-le n f k)
 pub largest-below : (n : ℕ) (f : ℕ → ℕ) (b : ℕ) → ((k : ℕ) → k < n → f k ≤ b) → largest n f ≤ b
 unfolding largest
 largest-below zero f b h = omega arith
-largest-below (suc n) f b h = let a = h n (omega arith) in let c = largest-below n f b (λ k l. h k (omega arith)) in omega arith
+largest-below (suc n) f b h = let a = h n (omega arith) in let c = largest-below n f b (λ k l. h k (omega arith)) in
+    omega arith
 
 pub largest-ext : (n : ℕ) (f g : ℕ → ℕ) → ((k : ℕ) → k < n → f k ≡ g k) → largest n f ≡ largest n g
 unfolding largest
@@ -204,7 +219,8 @@ unfolding sum
 sum-upd zero f i v h = absurd (omega arith)
 sum-upd (suc n) f i v h = go (ℕ-discrete i n) (sum-upd n f i v)
   where
-    go : Dec (i ≡ n) → (i < n → sum n (upd f i v) + f i ≡ sum n f + v) → upd f i v n + sum n (upd f i v) + f i ≡ f n + sum n f + v
+    go : Dec (i ≡ n) → (i < n → sum n (upd f i v) + f i ≡ sum n f + v)
+        → upd f i v n + sum n (upd f i v) + f i ≡ f n + sum n f + v
     go (yes q) ih =
         let a : upd f i v n ≡ v = rw q (upd-same f n v) in
         let b : sum n (upd f i v) ≡ sum n f = sum-ext n (upd f i v) f (λ k lt. upd-other f i v k (λ e. omega arith)) in
@@ -216,9 +232,11 @@ sum-upd (suc n) f i v h = go (ℕ-discrete i n) (sum-upd n f i v)
         omega arith
 
 -- two sums that differ in one term
-pub sum-one : (n : ℕ) (f g : ℕ → ℕ) (i : ℕ) → i < n → ((k : ℕ) → (k ≡ i → ⊥) → f k ≡ g k) → sum n f + g i ≡ sum n g + f i
+pub sum-one : (n : ℕ) (f g : ℕ → ℕ) (i : ℕ) → i < n → ((k : ℕ) → (k ≡ i → ⊥) → f k ≡ g k)
+    → sum n f + g i ≡ sum n g + f i
 sum-one n f g i h e =
-    let a : sum n f ≡ sum n (upd g i (f i)) = sum-ext n f (upd g i (f i)) (λ k lt. upd-cases (λ (m v : ℕ). f m ≡ v) g i (f i) k refl (e k)) in
+    let a : sum n f ≡ sum n (upd g i (f i)) =
+    sum-ext n f (upd g i (f i)) (λ k lt. upd-cases (λ (m v : ℕ). f m ≡ v) g i (f i) k refl (e k)) in
     let b = sum-upd n g i (f i) h in
     omega arith
 
@@ -244,7 +262,8 @@ unfolding anyb sum
 any-count zero t = refl
 any-count (suc n) t = go (t n) (any-count n t)
   where
-    go : (b : Bool) → anyb n t ≡ ltb 0 (sum n (λ k. ifb (t k) 1 0)) → b || anyb n t ≡ ltb 0 (ifb b 1 0 + sum n (λ k. ifb (t k) 1 0))
+    go : (b : Bool) → anyb n t ≡ ltb 0 (sum n (λ k. ifb (t k) 1 0))
+        → b || anyb n t ≡ ltb 0 (ifb b 1 0 + sum n (λ k. ifb (t k) 1 0))
     go true e = sym (lt-ltb 0 (1 + sum n (λ k. ifb (t k) 1 0)) (omega arith))
     go false e = let z : 0 + sum n (λ k. ifb (t k) 1 0) ≡ sum n (λ k. ifb (t k) 1 0) = omega arith in rw z e
 

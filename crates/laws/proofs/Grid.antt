@@ -10,7 +10,8 @@ module _ {A : Type 0} where
       → P i j v → ((a ≡ i → b ≡ j → ⊥) → P a b (f a b)) → P a b (upd2 f i j v a b)
   upd2-cases P f i j v a b at other =
       upd-cases (λ (k : ℕ) (r : ℕ → A). ((k ≡ i → b ≡ j → ⊥) → P k b (f k b)) → P k b (r b)) f i (upd (f i) j v) a
-      (λ o. upd-cases (λ (k : ℕ) (w : A). ((k ≡ j → ⊥) → P i k (f i k)) → P i k w) (f i) j v b (λ k. at) (λ n k. k n) (λ n. o (λ e. n)))
+      (λ o. upd-cases (λ (k : ℕ) (w : A). ((k ≡ j → ⊥) → P i k (f i k)) → P i k w) (f i) j v b (λ k. at) (λ n k. k n)
+      (λ n. o (λ e. n)))
       (λ n o. o (λ e. absurd (n e)))
       other
 
@@ -19,10 +20,12 @@ module _ {A : Type 0} where
 
   pub upd2-other : (f : ℕ → ℕ → A) (i j : ℕ) (v : A) (a b : ℕ) → (a ≡ i → b ≡ j → ⊥) → upd2 f i j v a b ≡ f a b
   upd2-other f i j v a b =
-      upd2-cases (λ (a b : ℕ) (x : A). (a ≡ i → b ≡ j → ⊥) → x ≡ f a b) f i j v a b (λ n. absurd (n refl refl)) (λ n m. refl)
+      upd2-cases (λ (a b : ℕ) (x : A). (a ≡ i → b ≡ j → ⊥) → x ≡ f a b) f i j v a b (λ n. absurd (n refl refl))
+      (λ n m. refl)
 
   -- beside another that agrees with it elsewhere
-  pub upd2-agree : (f h : ℕ → ℕ → A) (i j : ℕ) (v w : A) (a b : ℕ) → v ≡ w → f a b ≡ h a b → upd2 f i j v a b ≡ upd2 h i j w a b
+  pub upd2-agree : (f h : ℕ → ℕ → A) (i j : ℕ) (v w : A) (a b : ℕ) → v ≡ w → f a b ≡ h a b
+      → upd2 f i j v a b ≡ upd2 h i j w a b
   upd2-agree f h i j v w a b e =
       upd2-cases (λ (a b : ℕ) (x : A). f a b ≡ h a b → x ≡ upd2 h i j w a b) f i j v a b
       (λ q. e ∙ sym (upd2-same h i j w)) (λ n q. q ∙ sym (upd2-other h i j w a b n))

@@ -16,7 +16,8 @@ module _ {W E : Type 0} (step : W → E → W) where
   runs-append w (e ∷ a) b = runs-append (step w e) a b
 
   -- an invariant along a run
-  pub runs-keep : (P : W → Type 0) → ((w : W) (e : E) → P w → P (step w e)) → (w : W) (es : List E) → P w → P (runs step w es)
+  pub runs-keep : (P : W → Type 0) → ((w : W) (e : E) → P w → P (step w e)) → (w : W) (es : List E) → P w
+      → P (runs step w es)
   unfolding runs
   runs-keep P h w [] p = p
   runs-keep P h w (e ∷ es) p = runs-keep P h (step w e) es (h w e p)

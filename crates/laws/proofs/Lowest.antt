@@ -1,4 +1,5 @@
--- The lowest below n that passes a test: it passes, and none below it does. Going through all n finds the same; so do trailing zeros.
+-- The lowest below n that passes a test: it passes, and none below it does. Going through all n finds the same; so do
+-- trailing zeros.
 use mathlib.Core.Path.{_≡_, refl, sym, ap, _∙_}
 use mathlib.Core.Bool.{Bool, true, false, not, true≢false}
 use Prim.Native.Nat.{ℕ, zero, suc, _/_, _%_, _≤_, _<_, min}
@@ -18,7 +19,8 @@ pub lowest-le : (n : ℕ) (p : ℕ → Bool) → lowestBelow n p ≤ n
 unfolding lowestBelow
 lowest-le zero p = omega arith
 lowest-le (suc n) p =
-    let h = lowest-le n (λ k. p (suc k)) in if-cases (λ (v : ℕ). v ≤ suc n) (p 0) _ _ (λ e. omega arith) (λ e. omega arith)
+    let h = lowest-le n (λ k. p (suc k)) in
+    if-cases (λ (v : ℕ). v ≤ suc n) (p 0) _ _ (λ e. omega arith) (λ e. omega arith)
 
 pub lowest-passes : (n : ℕ) (p : ℕ → Bool) → lowestBelow n p < n → p (lowestBelow n p) ≡ true
 unfolding lowestBelow
@@ -28,7 +30,8 @@ lowest-passes (suc n) p h = go (p 0) refl h (lowest-passes n (λ k. p (suc k)))
     next : ℕ
     next = lowestBelow n (λ k. p (suc k))
 
-    go : (t : Bool) → p 0 ≡ t → ifb t 0 (suc next) < suc n → (next < n → p (suc next) ≡ true) → p (ifb t 0 (suc next)) ≡ true
+    go : (t : Bool) → p 0 ≡ t → ifb t 0 (suc next) < suc n → (next < n → p (suc next) ≡ true)
+        → p (ifb t 0 (suc next)) ≡ true
     go true e l ih = e
     go false e l ih = ih (omega arith)
 
@@ -40,7 +43,8 @@ lowest-first (suc n) p k h = go (p 0) refl k h (lowest-first n (λ k. p (suc k))
     next : ℕ
     next = lowestBelow n (λ k. p (suc k))
 
-    go : (t : Bool) → p 0 ≡ t → (k : ℕ) → k < ifb t 0 (suc next) → ((k : ℕ) → k < next → p (suc k) ≡ false) → p k ≡ false
+    go : (t : Bool) → p 0 ≡ t → (k : ℕ) → k < ifb t 0 (suc next) → ((k : ℕ) → k < next → p (suc k) ≡ false)
+        → p k ≡ false
     go true e k l ih = absurd (omega arith)
     go false e zero l ih = e
     go false e (suc k) l ih = ih k (omega arith)
@@ -54,7 +58,8 @@ lowest-none n p f = go (decLt (lowestBelow n p) n)
     go (no a) = let h = lowest-le n p in omega arith
 
 -- a number that passes, with none below it, is the lowest
-pub lowest-is : (n : ℕ) (p : ℕ → Bool) (k : ℕ) → k < n → p k ≡ true → ((j : ℕ) → j < k → p j ≡ false) → lowestBelow n p ≡ k
+pub lowest-is : (n : ℕ) (p : ℕ → Bool) (k : ℕ) → k < n → p k ≡ true → ((j : ℕ) → j < k → p j ≡ false)
+    → lowestBelow n p ≡ k
 lowest-is n p k l e f = go (decLt (lowestBelow n p) k) (decLt k (lowestBelow n p))
   where
     go : Dec (lowestBelow n p < k) → Dec (k < lowestBelow n p) → lowestBelow n p ≡ k
@@ -89,7 +94,8 @@ unfolding lowestBelow lowestOfAll
 lowest-of-all zero p = refl
 lowest-of-all (suc n) p = go (p 0) (lowest-of-all n (λ k. p (suc k))) (lowest-le n (λ k. p (suc k)))
   where
-    go : (t : Bool) → lowestBelow n (λ k. p (suc k)) ≡ lowestOfAll n (λ k. p (suc k)) → lowestBelow n (λ k. p (suc k)) ≤ n
+    go : (t : Bool) → lowestBelow n (λ k. p (suc k)) ≡ lowestOfAll n (λ k. p (suc k))
+        → lowestBelow n (λ k. p (suc k)) ≤ n
         → ifb t 0 (suc (lowestBelow n (λ k. p (suc k)))) ≡ min (ifb t 0 (suc n)) (suc (lowestOfAll n (λ k. p (suc k))))
     go true e l = omega arith
     go false e l = omega arith

@@ -29,9 +29,11 @@ module _ {A : Type 0} where
       cc
 
   -- what a loop that stores f i at i has done when i is n
-  pub filled : (n : ℕ) (f : ℕ → A) (d : A) (l : List A) → length l ≡ n → ((k : ℕ) → k < n → getD l k d ≡ f k) → l ≡ tab n f
+  pub filled : (n : ℕ) (f : ℕ → A) (d : A) (l : List A) → length l ≡ n → ((k : ℕ) → k < n → getD l k d ≡ f k)
+      → l ≡ tab n f
   filled n f d l e h =
-      ext-getD d l (tab n f) (e ∙ sym (length-tab n f)) (λ k lt. h k (rw (← e) lt) ∙ sym (getD-tab n f k d (rw (← e) lt)))
+      ext-getD d l (tab n f) (e ∙ sym (length-tab n f)) (λ k lt. h k (rw (← e) lt)
+      ∙ sym (getD-tab n f k d (rw (← e) lt)))
 
   -- one more store
   pub fill-step : (f : ℕ → A) (d : A) (l : List A) (i : ℕ) → i < length l → ((k : ℕ) → k < i → getD l k d ≡ f k)
@@ -43,9 +45,11 @@ module _ {A : Type 0} where
       go (no n) = getD-set-other l i k (f i) d n ∙ h k (omega arith)
 
   -- a table stored to at one place
-  pub set-tab : (n : ℕ) (f h : ℕ → A) (i : ℕ) → i < n → ((k : ℕ) → (k ≡ i → ⊥) → f k ≡ h k) → set (tab n f) i (h i) ≡ tab n h
+  pub set-tab : (n : ℕ) (f h : ℕ → A) (i : ℕ) → i < n → ((k : ℕ) → (k ≡ i → ⊥) → f k ≡ h k)
+      → set (tab n f) i (h i) ≡ tab n h
   set-tab n f h i lt e =
-      filled n h (h i) (set (tab n f) i (h i)) (length-set (tab n f) i (h i) ∙ length-tab n f) (λ k l. go k l (ℕ-discrete k i))
+      filled n h (h i) (set (tab n f) i (h i)) (length-set (tab n f) i (h i) ∙ length-tab n f)
+      (λ k l. go k l (ℕ-discrete k i))
     where
       go : (k : ℕ) → k < n → Dec (k ≡ i) → getD (set (tab n f) i (h i)) k (h i) ≡ h k
       go k l (yes q) = let s = length-tab n f in rw q (getD-set-same (tab n f) i (h i) (h i) (omega arith))

@@ -16,7 +16,8 @@ module _ {A : Type 0} where
   upd-other f i v j n = rw (ne-eqb j i n)
 
   -- by cases: at i, and elsewhere
-  pub upd-cases {ℓ} : (P : ℕ → A → Type ℓ) (f : ℕ → A) (i : ℕ) (v : A) (j : ℕ) → P i v → ((j ≡ i → ⊥) → P j (f j)) → P j (upd f i v j)
+  pub upd-cases {ℓ} : (P : ℕ → A → Type ℓ) (f : ℕ → A) (i : ℕ) (v : A) (j : ℕ) → P i v → ((j ≡ i → ⊥) → P j (f j))
+      → P j (upd f i v j)
   upd-cases P f i v j at other = go (ℕ-discrete j i)
     where
       go : Dec (j ≡ i) → P j (upd f i v j)
@@ -29,7 +30,8 @@ module _ {A : Type 0} where
   upd-agree f g i v j e = ap (ifb (eqb j i) v) e
 
 -- one place of two functions, by cases
-pub upd-both : {A B : Type 0} (P : A → B → Type 0) (f : ℕ → A) (g : ℕ → B) (i : ℕ) (v : A) (w : B) (j : ℕ) → P v w → P (f j) (g j)
+pub upd-both : {A B : Type 0} (P : A → B → Type 0) (f : ℕ → A) (g : ℕ → B) (i : ℕ) (v : A) (w : B) (j : ℕ) → P v w
+    → P (f j) (g j)
     → P (upd f i v j) (upd g i w j)
 upd-both P f g i v w j at other = go (ℕ-discrete j i)
   where

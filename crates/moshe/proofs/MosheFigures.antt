@@ -1,5 +1,6 @@
--- Figures 5 and 6 of Moshe beside the rules: with document 01's slow agreement the handlers are the rules, on every state; and where
--- slow agreement is not called for they are the fast agreement algorithm as printed. Of reports, those that change the net view.
+-- Figures 5 and 6 of Moshe beside the rules: with document 01's slow agreement the handlers are the rules, on every
+-- state; and where slow agreement is not called for they are the fast agreement algorithm as printed. Of reports,
+-- those that change the net view.
 use mathlib.Core.Path.{_≡_, refl, sym, ap, subst, _∙_}
 use mathlib.Core.Bool.{Bool, true, false, _&&_, _||_, not}
 use mathlib.Core.Logic.{_⊎_, inl, inr, _↔_}
@@ -24,7 +25,9 @@ use Rattle.rules.specs.State.{Mode, None, Fast, Slow, Slot, State, keeping, fas
 use Rattle.rules.specs.Rules.{notice, proposal, Outcome, nothingWritten, andThen, fresh, netAfter, withNet, repeats, seated, opened, noticeOf, opens, nextNumber, ownProposal, proposed, receives, proposesFast, received, inSlot}
 use Rattle.rules.specs.Rules.{slowCalled, beginsIn, proposesSlow, slowTest, isNone, agreesKind, agreesIn, agreed, startOf, viewOf, concluded, agreementTest, tests, changeRule, reportRule, proposalRule}
 use Rattle.moshe.specs.Moshe.{Leaves, Server, toClients, toServers, Handled, nothingSent, thenRun, local, initially, propsOf, usedPropsOf, updateNSView, anyLocal, startFA, sendStartChange, proposalFA, others, sendProposal, storeProp, useProps, sendView}
-use Rattle.moshe.specs.Moshe.{deliverView, matchesNSView, onProposal, startsFA, onNE, reachedFA, neverSA, noSA, fastOnProposal, fastOnNE, serverOf, stateFrom, addressed, handledOf, needed, slowProposal, reached, onProposal01, onNE01}
+use Rattle.moshe.specs.Moshe.{deliverView, matchesNSView, onProposal, startsFA, onNE, reachedFA, neverSA, noSA}
+use Rattle.moshe.specs.Moshe.{fastOnProposal, fastOnNE, serverOf, stateFrom, addressed, handledOf, needed}
+use Rattle.moshe.specs.Moshe.{slowProposal, reached, onProposal01, onNE01}
 use Rattle.moshe.specs.Moshe.{IsFast, Known, OwnFast, OthersKnown}
 use Rattle.rule_laws.proofs.Parts.{proposed-reads, received-reads}
 use Rattle.rule_laws.proofs.Repeats.{repeat-rule, change-rule}
@@ -102,14 +105,17 @@ module _ (t : State) where
   unfolding made sendStartChange sendProposal opens noticeOf proposesFast startFA opened
   sent-is = rw (others-are, made-is-prop) (go (anyb 16 (receives made)))
     where
-      go : (b : Bool) → (toClients (notice (noticeOf (opened t))) (local (t .own) (t .net)) ∷ ifb b (toServers (proposal made) (receives made) ∷ []) [])
-          ≡ (toClients (notice (noticeOf (opened t))) (local (t .own) (t .net)) ∷ map (addressed (t .own)) (ifb b (proposal made ∷ []) []))
+      go : (b : Bool) → (toClients (notice (noticeOf (opened t))) (local (t .own) (t .net))
+          ∷ ifb b (toServers (proposal made) (receives made) ∷ []) [])
+          ≡ (toClients (notice (noticeOf (opened t))) (local (t .own) (t .net))
+          ∷ map (addressed (t .own)) (ifb b (proposal made ∷ []) []))
       go true = refl
       go false = refl
 
 -- The handlers, whatever stands for the three functions.
 module _ (N : Server → Proposal → Bool) (S : Server → Proposal → Handled) (R : Server → Bool) where
-  deliver-is : (s : State) → agreed s ≡ R (serverOf s) → deliverView N S R (serverOf s) ≡ handledOf (s .own) (agreementTest s)
+  deliver-is : (s : State) → agreed s ≡ R (serverOf s)
+      → deliverView N S R (serverOf s) ≡ handledOf (s .own) (agreementTest s)
   unfolding deliverView agreementTest sendView concluded viewOf
   deliver-is s h = go (agreed s) refl
     where
@@ -121,29 +127,40 @@ module _ (N : Server → Proposal → Bool) (S : Server → Proposal → Handled
   SameTests : State → Proposal → Type 0
   SameTests s p = matchesNSView N S R (serverOf s) p ≡ handledOf (s .own) (tests s)
 
-  on-proposal : (s : State) (p : Proposal) → (eqb (p .members .bits) (s .net .bits) ≡ true → SameTests (received s p) p)
+  on-proposal : (s : State) (p : Proposal)
+      → (eqb (p .members .bits) (s .net .bits) ≡ true → SameTests (received s p) p)
       → onProposal N S R (serverOf s) p ≡ handledOf (s .own) (proposalRule s p)
   unfolding SameTests onProposal proposalRule storeProp received
   on-proposal s p h = go (eqb (p .members .bits) (s .net .bits)) refl
     where
-      go : (t : Bool) → eqb (p .members .bits) (s .net .bits) ≡ t → onProposal N S R (serverOf s) p ≡ handledOf (s .own) (proposalRule s p)
+      go : (t : Bool) → eqb (p .members .bits) (s .net .bits) ≡ t
+          → onProposal N S R (serverOf s) p ≡ handledOf (s .own) (proposalRule s p)
       go true e = rw e (h e)
       go false e = rw e
 
   -- the lines of the NE handler after the first; t has the new net view
   module _ (t : State) (h : SameTests (proposesFast (opened t) .state) (made t)) where
-    delivered : onProposal N S R (startFA (serverOf t)) (proposalFA (startFA (serverOf t))) ≡ handledOf (t .own) (tests (proposesFast (opened t) .state))
+    delivered : onProposal N S R (startFA (serverOf t)) (proposalFA (startFA (serverOf t))) ≡ handledOf (t .own)
+        (tests (proposesFast (opened t) .state))
     unfolding SameTests onProposal proposesFast proposed opened
     delivered = rw (made-is-prop t, stored-is t, members) h
       where
         members : eqb (made t .members .bits) (t .net .bits) ≡ true
         members = unfold made ownProposal in eq-eqb (t .net .bits) (t .net .bits) refl
 
-    starts-are : startsFA N S R (startFA (serverOf t)) ≡ handledOf (t .own) (andThen (opens t) (λ u. andThen (proposesFast u) tests))
+    starts-are : startsFA N S R (startFA (serverOf t)) ≡ handledOf (t .own)
+        (andThen (opens t) (λ u. andThen (proposesFast u) tests))
     unfolding startsFA thenRun andThen opens
-    starts-are = rw (delivered, sent-is t, ← (map-append (addressed (t .own)) (proposesFast (opened t) .written) (tests (proposesFast (opened t) .state) .written)))
+    starts-are = rw (
+      delivered,
+      sent-is t,
+      ← (map-append (addressed (t .own)) (proposesFast (opened t) .written)
+          (tests (proposesFast (opened t) .state) .written)),
+    )
 
-  on-NE : (s : State) (n : Report) → (let t = withNet s (netAfter (s .net .bits) n) in seated t ≡ true → SameTests (proposesFast (opened t) .state) (made t))
+  on-NE : (s : State) (n : Report)
+      → (let t = withNet s (netAfter (s .net .bits) n) in
+      seated t ≡ true → SameTests (proposesFast (opened t) .state) (made t))
       → onNE N S R (serverOf s) n ≡ handledOf (s .own) (changeRule (withNet s (netAfter (s .net .bits) n)))
   unfolding onNE changeRule updateNSView netAfter withNet anyLocal seated
   on-NE s n h = go (seated t) refl
@@ -169,22 +186,27 @@ slow-keeps s = go (slowCalled s) (s .mode)
     go true Slow = (refl, refl)
 
 slow-is : (s : State) (p : Proposal)
-    → ifb (needed (s .accepted) (serverOf s) p) (slowProposal (s .accepted) (serverOf s) p) (nothingSent (serverOf s)) ≡ handledOf (s .own) (slowTest s)
+    → ifb (needed (s .accepted) (serverOf s) p) (slowProposal (s .accepted) (serverOf s) p)
+    (nothingSent (serverOf s)) ≡ handledOf (s .own) (slowTest s)
 unfolding needed slowProposal slowTest
 slow-is s p = go (slowCalled s) refl
   where
-    go : (t : Bool) → slowCalled s ≡ t → ifb t (slowProposal (s .accepted) (serverOf s) p) (nothingSent (serverOf s)) ≡ handledOf (s .own) (slowTest s)
+    go : (t : Bool) → slowCalled s ≡ t
+        → ifb t (slowProposal (s .accepted) (serverOf s) p) (nothingSent (serverOf s)) ≡ handledOf (s .own)
+        (slowTest s)
     go true e = rw e
     go false e = rw e
 
-tests-are : (s : State) (p : Proposal) → SameTests (needed (s .accepted)) (slowProposal (s .accepted)) (reached (s .accepted)) s p
+tests-are : (s : State) (p : Proposal)
+    → SameTests (needed (s .accepted)) (slowProposal (s .accepted)) (reached (s .accepted)) s p
 unfolding SameTests matchesNSView tests reached
 tests-are s p =
     let k = slow-keeps s in
     let v = serverOf (slowTest s .state) in
     rw (slow-is s p, ran-then (s .own) (s .accepted) (slowTest s) agreementTest (k .1))
     (then-same (handledOf (s .own) (slowTest s)) _ _
-    (deliver-is _ _ _ (stateFrom (s .accepted) v) refl ∙ ap (λ (o : ℕ). handledOf o (agreementTest (stateFrom (s .accepted) v))) (k .0)))
+    (deliver-is _ _ _ (stateFrom (s .accepted) v) refl
+    ∙ ap (λ (o : ℕ). handledOf o (agreementTest (stateFrom (s .accepted) v))) (k .0)))
 
 tests-keep : (s : State) → tests s .state .accepted ≡ s .accepted
 unfolding tests andThen agreementTest concluded
@@ -195,18 +217,21 @@ tests-keep s =
 change-keeps : (t : State) → changeRule t .state .accepted ≡ t .accepted
 unfolding changeRule andThen opens opened proposesFast proposed
 change-keeps t =
-    if-cases (λ (o : Outcome). o .state .accepted ≡ t .accepted) (seated t) _ _ (λ e. tests-keep (proposesFast (opened t) .state)) (λ e. refl)
+    if-cases (λ (o : Outcome). o .state .accepted ≡ t .accepted) (seated t) _ _
+    (λ e. tests-keep (proposesFast (opened t) .state)) (λ e. refl)
 
 proposal-keeps : (s : State) (p : Proposal) → proposalRule s p .state .accepted ≡ received s p .accepted
 unfolding proposalRule
-proposal-keeps s p = if-cases (λ (o : Outcome). o .state .accepted ≡ received s p .accepted) (eqb (p .members .bits) (s .net .bits)) _ _
+proposal-keeps s p =
+    if-cases (λ (o : Outcome). o .state .accepted ≡ received s p .accepted) (eqb (p .members .bits) (s .net .bits)) _ _
     (λ e. tests-keep (received s p)) (λ e. refl)
 
-leaves : (own : ℕ) (accepted : List ℕ) (r : Handled) (o : Outcome) → o .state .accepted ≡ accepted → r ≡ handledOf own o → Leaves own accepted r o
+leaves : (own : ℕ) (accepted : List ℕ) (r : Handled) (o : Outcome) → o .state .accepted ≡ accepted
+    → r ≡ handledOf own o → Leaves own accepted r o
 leaves own accepted r o a e = rw e (record { state = rw (← a); sent = refl })
 
--- the handlers with document 01's slow agreement are the rules, on every state, for reports that change the net view; the own delivery leaves
--- the last accepted numbers
+-- the handlers with document 01's slow agreement are the rules, on every state, for reports that change the net view;
+-- the own delivery leaves the last accepted numbers
 pub report-figure : (s : State) (n : Report) → repeats s n ≡ false
     → Leaves (s .own) (s .accepted) (onNE01 (s .accepted) (serverOf s) n) (reportRule s n)
 unfolding proposesFast proposed opened withNet
@@ -214,7 +239,8 @@ report-figure s n c = rw (change-rule s n c) (leaves _ _ _ _ (change-keeps (with
     (on-NE _ _ _ s n (λ e. tests-are _ _)))
 
 -- where the paper would start an agreement once more, a repeat leaves every variable and sends nothing
-pub repeat-figure : (s : State) (n : Report) → repeats s n ≡ true → Leaves (s .own) (s .accepted) (nothingSent (serverOf s)) (reportRule s n)
+pub repeat-figure : (s : State) (n : Report) → repeats s n ≡ true
+    → Leaves (s .own) (s .accepted) (nothingSent (serverOf s)) (reportRule s n)
 repeat-figure s n e = rw (repeat-rule s n e) (leaves _ _ _ (nothingWritten s) refl refl)
 
 pub proposal-figure : (s : State) (p : Proposal)
@@ -224,15 +250,17 @@ unfolding received
 proposal-figure s p = leaves _ _ _ _ (proposal-keeps s p)
     (on-proposal _ _ _ s p (λ e. tests-are (received s p) p))
 
--- Fast agreement as printed. It takes mode fast, which a report sets, that slow agreement is not called for, that the own stored proposal
--- is fast, and that those of the others have kind 1 or 2.
+-- Fast agreement as printed. It takes mode fast, which a report sets, that slow agreement is not called for, that the
+-- own stored proposal is fast, and that those of the others have kind 1 or 2.
 module _ (s : State) (m : s .mode ≡ Fast) (c : slowCalled s ≡ false) (f : OwnFast s) (k : OthersKnown s) where
-  kind-fast : (o : ℕ) → o < 16 → storedAt s o .present ≡ true → inSlot s o .members .bits ≡ s .net .bits → inSlot s o .kind ≡ fast
+  kind-fast : (o : ℕ) → o < 16 → storedAt s o .present ≡ true → inSlot s o .members .bits ≡ s .net .bits
+      → inSlot s o .kind ≡ fast
   kind-fast o l h e = go (ℕ-discrete o (s .own))
     where
       heard : (n : o ≡ s .own → ⊥) → (inSlot s o .kind ≡ fast) ⊎ (inSlot s o .kind ≡ slow) → inSlot s o .kind ≡ fast
       heard n (inl e) = e
-      heard n (inr w) = absurd (not-called s c .no-slow m o l (record { another = n; is-there = h; same-members = e }) w)
+      heard n (inr w) =
+          absurd (not-called s c .no-slow m o l (record { another = n; is-there = h; same-members = e }) w)
 
       go : Dec (o ≡ s .own) → inSlot s o .kind ≡ fast
       go (yes q) = rw q (f (rw q at l) (rw q at h))
@@ -255,7 +283,8 @@ module _ (s : State) (m : s .mode ≡ Fast) (c : slowCalled s ≡ false) (f : Ow
   unfolding reachedFA agreed isNone
   fast-reached = go (s .mode) m
     where
-      go : (x : Mode) → x ≡ Fast → (not (isNone x) && allb 16 (λ o. not (serves (s .net .bits) o) || agreesIn x s o)) ≡ reachedFA (serverOf s)
+      go : (x : Mode) → x ≡ Fast
+          → (not (isNone x) && allb 16 (λ o. not (serves (s .net .bits) o) || agreesIn x s o)) ≡ reachedFA (serverOf s)
       go Fast e = allb-ext 16 _ _ agrees-fast
       go None e = let z : _≡_ {A = ℕ} 0 1 = cc in absurd (omega arith)
       go Slow e = let z : _≡_ {A = ℕ} 0 1 = cc in absurd (omega arith)
@@ -266,22 +295,29 @@ module _ (s : State) (m : s .mode ≡ Fast) (c : slowCalled s ≡ false) (f : Ow
 
 pub fast-proposal-figure : (s : State) (p : Proposal) → s .mode ≡ Fast
     → (p .members .bits ≡ s .net .bits → slowCalled (received s p) ≡ false) → OwnFast s → OthersKnown s
-    → (p .sender ≡ s .own → ⊥) → Known (keeping p) → Leaves (s .own) (received s p .accepted) (fastOnProposal (serverOf s) p) (proposalRule s p)
+    → (p .sender ≡ s .own → ⊥) → Known (keeping p)
+    → Leaves (s .own) (received s p .accepted) (fastOnProposal (serverOf s) p) (proposalRule s p)
 fast-proposal-figure s p m c f k n h = leaves _ _ _ _ (proposal-keeps s p)
-    (on-proposal neverSA noSA reachedFA s p (λ e. unfold received in fast-tests (received s p) m (c (eqb-true _ _ e)) own-fast known p))
+    (on-proposal neverSA noSA reachedFA s p (λ e. unfold received in
+    fast-tests (received s p) m (c (eqb-true _ _ e)) own-fast known p))
   where
     at : (o : ℕ) → o < 16 → upd (storedAt s) (p .sender) (keeping p) o ≡ storedAt (received s p) o
     at o l = sym (received-reads s p .stored-is o l)
 
     own-fast : OwnFast (received s p)
-    own-fast = unfold received in λ l. subst IsFast (sym (upd-other (storedAt s) (p .sender) (keeping p) (s .own) (λ e. n (sym e))) ∙ at (s .own) l) (f l)
+    own-fast = unfold received in
+        λ l. subst IsFast (sym (upd-other (storedAt s) (p .sender) (keeping p) (s .own) (λ e. n (sym e)))
+        ∙ at (s .own) l) (f l)
 
     known : OthersKnown (received s p)
     known = unfold received in λ o l q. subst Known (at o l)
-        (upd-cases (λ (i : ℕ) (v : Slot). (i ≡ s .own → ⊥) → Known v) (storedAt s) (p .sender) (keeping p) o (λ d. h) (λ d. k o l) q)
+        (upd-cases (λ (i : ℕ) (v : Slot). (i ≡ s .own → ⊥) → Known v) (storedAt s) (p .sender) (keeping p) o (λ d. h)
+        (λ d. k o l) q)
 
-pub fast-report-figure : (s : State) (n : Report) → repeats s n ≡ false → let t = withNet s (netAfter (s .net .bits) n) in
-    (seated t ≡ true → slowCalled (proposesFast (opened t) .state) ≡ false) → OthersKnown s → Leaves (s .own) (s .accepted) (fastOnNE (serverOf s) n) (reportRule s n)
+pub fast-report-figure : (s : State) (n : Report) → repeats s n ≡ false → let t =
+    withNet s (netAfter (s .net .bits) n) in
+    (seated t ≡ true → slowCalled (proposesFast (opened t) .state) ≡ false) → OthersKnown s
+    → Leaves (s .own) (s .accepted) (fastOnNE (serverOf s) n) (reportRule s n)
 unfolding proposesFast proposed opened withNet made ownProposal
 fast-report-figure s n d c k = rw (change-rule s n d) (leaves _ _ _ _ (change-keeps t)
     (on-NE neverSA noSA reachedFA s n (λ e. fast-tests u refl (c e) own-fast known (made t))))

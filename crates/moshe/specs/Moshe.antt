@@ -1,5 +1,6 @@
--- Moshe, source document 004, Figures 5 and 6, in the paper's names. Clients are seats, servers are offices, and its messages are the
--- records of document 01. The three functions that Figure 6 leaves to Figure 7 are parameters of the handlers.
+-- Moshe, source document 004, Figures 5 and 6, in the paper's names. Clients are seats, servers are offices, and its
+-- messages are the records of document 01. The three functions that Figure 6 leaves to Figure 7 are parameters of the
+-- handlers.
 use mathlib.Core.Path.{_≡_}
 use mathlib.Core.Bool.{Bool, true, false, _&&_, _||_, not}
 use mathlib.Core.Logic.{_⊎_}
@@ -17,7 +18,8 @@ use Rattle.records.specs.declared.Report.{Report}
 use Rattle.records.specs.declared.Proposal.{Proposal}
 use Rattle.records.specs.declared.View.{View}
 use Rattle.rules.specs.State.{Mode, None, Fast, Slot, State, fast, slow, kindOf, zeros, nothing, keeping, storedAt}
-use Rattle.rules.specs.Rules.{Written, notice, proposal, view, Outcome, andThen, receives, slowCalled, beginsIn, proposesSlow, agreed}
+use Rattle.rules.specs.Rules.{Written, notice, proposal, view, Outcome, andThen, receives, slowCalled, beginsIn}
+use Rattle.rules.specs.Rules.{proposesSlow, agreed}
 
 -- Figure 5, types
 abbrev pub CSet : Type 0
@@ -131,7 +133,8 @@ startFA v =
 
 -- line 4: startChange to the local clients
 unfoldable pub sendStartChange : Server → List Message
-sendStartChange v = toClients (notice (record { start = v .startChangeNum; members = v .NSView })) (local (v .me) (v .NSView)) ∷ []
+sendStartChange v =
+    toClients (notice (record { start = v .startChangeNum; members = v .NSView })) (local (v .me) (v .NSView)) ∷ []
 
 -- line 7: the proposal
 unfoldable pub proposalFA : Server → Proposal
@@ -192,10 +195,12 @@ sendView v = toClients (view (v .curView)) (local (v .me) (v .NSView)) ∷ []
 module _ (TestIfSAProposalNeeded : Server → Proposal → Bool) (SendSAProposal : Server → Proposal → Handled)
     (TestIfAgreementReached : Server → Bool) where
   unfoldable pub deliverView : Server → Handled
-  deliverView v = ifb (TestIfAgreementReached v) (record { server = useProps v; sent = sendView (useProps v) }) (nothingSent v)
+  deliverView v = ifb (TestIfAgreementReached v) (record { server = useProps v; sent = sendView (useProps v) })
+      (nothingSent v)
 
   unfoldable pub matchesNSView : Server → Proposal → Handled
-  matchesNSView v inProp = thenRun (ifb (TestIfSAProposalNeeded v inProp) (SendSAProposal v inProp) (nothingSent v)) deliverView
+  matchesNSView v inProp =
+      thenRun (ifb (TestIfSAProposalNeeded v inProp) (SendSAProposal v inProp) (nothingSent v)) deliverView
 
   unfoldable pub onProposal : Server → Proposal → Handled
   onProposal v inProp =
@@ -213,7 +218,8 @@ module _ (TestIfSAProposalNeeded : Server → Proposal → Bool) (SendSAProposal
 -- Figure 6, last lines: TestIfAgreementReached in the fast agreement algorithm, which has no TestIfSAProposalNeeded
 unfoldable pub reachedFA : Server → Bool
 reachedFA v =
-    allb 16 (λ s. not (serversOf (v .NSView) s) || (propsAt v s .present && eqb (propsAt v s .proposal .members .bits) (v .NSView .bits)))
+    allb 16 (λ s. not (serversOf (v .NSView) s)
+    || (propsAt v s .present && eqb (propsAt v s .proposal .members .bits) (v .NSView .bits)))
 
 abbrev pub neverSA : Server → Proposal → Bool
 neverSA v inProp = false
@@ -264,8 +270,8 @@ addressed own (view v) = toClients (view v) (local own (v .members))
 abbrev pub handledOf : ℕ → Outcome → Handled
 handledOf own o = record { server = serverOf (o .state); sent = map (addressed own) (o .written) }
 
--- an outcome of the rules is what a handler leaves: the same variables with these last accepted numbers beside them, and the same
--- records in the same order, each sent to the recipients that document 01 gives it
+-- an outcome of the rules is what a handler leaves: the same variables with these last accepted numbers beside them,
+-- and the same records in the same order, each sent to the recipients that document 01 gives it
 pub record Leaves (own : ℕ) (accepted : List ℕ) (r : Handled) (o : Outcome) : Type 0 where
   pub state : o .state ≡ stateFrom accepted (r .server)
   pub sent : map (addressed own) (o .written) ≡ r .sent

@@ -1,5 +1,5 @@
--- How far an event moves the numbers: a start number by one, a proposal number by two, a view number two above the starts. So where no
--- number is above 2^30 - 1, no event makes one above L.
+-- How far an event moves the numbers: a start number by one, a proposal number by two, a view number two above the
+-- starts. So where no number is above 2^30 - 1, no event makes one above L.
 use mathlib.Core.Path.{_≡_, refl}
 use mathlib.Core.Bool.{true}
 use Prim.Native.Nat.{ℕ, _+_, _≤_, _<_}
@@ -12,28 +12,34 @@ use Rattle.seats.specs.Offices.{serves}
 use Rattle.records.specs.declared.Report.{Report}
 use Rattle.records.specs.declared.Proposal.{Proposal}
 use Rattle.rules.specs.State.{Mode, None, Fast, Slow, Slot, State, keeping, storedAt, usedFor, numberIn}
-use Rattle.rules.specs.Rules.{andThen, withNet, opened, opens, nextNumber, ownProposal, proposed, proposesFast, received}
-use Rattle.rules.specs.Rules.{slowNumber, beginsIn, proposesSlow, agreed, startOf, viewOf, concluded, reportRule, proposalRule}
+use Rattle.rules.specs.Rules.{andThen, withNet, opened, opens, nextNumber, ownProposal, proposed, proposesFast}
+use Rattle.rules.specs.Rules.{received}
+use Rattle.rules.specs.Rules.{slowNumber, beginsIn, proposesSlow, agreed, startOf, viewOf, concluded, reportRule}
+use Rattle.rules.specs.Rules.{proposalRule}
 use Rattle.records.specs.Numbers.{limit}
 use Rattle.rules.specs.Refusals.{wellFormed, aReport, aProposal}
 use Rattle.rules.specs.Bounds.{SlotCapped, Capped, low}
 use Rattle.rule_laws.proofs.Parts.{proposed-reads, received-reads}
 use Rattle.rule_laws.proofs.Tests.{NumberFrom, joins, starts, slow-number, agreed-out}
-use Rattle.rule_laws.proofs.Walk.{arrived, slowRound, concludes, then-state, Tested, staged-report, staged-proposal}
+use Rattle.rule_laws.proofs.Walk.{arrived, slowRound, concludes, then-state, Tested, staged-report}
+use Rattle.rule_laws.proofs.Walk.{staged-proposal}
 use Rattle.rule_laws.proofs.Ceiling.{made-well}
 
 slot-le : {a b : ℕ} (c d : ℕ) {v : Slot} → a ≤ c → b ≤ d → SlotCapped a b v → SlotCapped c d v
-slot-le c d x y h = record { start = λ p. let z = h .start p in omega arith; number = λ p. let z = h .number p in omega arith }
+slot-le c d x y h =
+    record { start = λ p. let z = h .start p in omega arith; number = λ p. let z = h .number p in omega arith }
 
 -- a number of what is stored, an empty slot counted as 0
 slot-number : (a b : ℕ) (v : Slot) → SlotCapped a b v → numberIn v ≤ b
 slot-number a b v h = if-cases (λ (x : ℕ). x ≤ b) (v .present) (v .proposal .number) 0 (h .number) (λ e. omega arith)
 
 -- one slot replaced
-slots-capped : (a b : ℕ) (s : State) (i : ℕ) (p : Proposal) (v : Slot) (o : ℕ) → ((o : ℕ) → o < 16 → SlotCapped a b (storedAt s o))
+slots-capped : (a b : ℕ) (s : State) (i : ℕ) (p : Proposal) (v : Slot) (o : ℕ)
+    → ((o : ℕ) → o < 16 → SlotCapped a b (storedAt s o))
     → SlotCapped a b (keeping p) → o < 16 → v ≡ upd (storedAt s) i (keeping p) o → SlotCapped a b v
 slots-capped a b s i p v o h k l e =
-    rw e (upd-cases (λ (o : ℕ) (v : Slot). o < 16 → SlotCapped a b v) (storedAt s) i (keeping p) o (λ l. k) (λ n l. h o l) l)
+    rw e (upd-cases (λ (o : ℕ) (v : Slot). o < 16 → SlotCapped a b v) (storedAt s) i (keeping p) o (λ l. k)
+    (λ n l. h o l) l)
 
 module _ (a b : ℕ) (s : State) (h : Capped a b s) where
   pub capped-le : (c d : ℕ) → a ≤ c → b ≤ d → Capped c d s
@@ -64,7 +70,8 @@ module _ (a b : ℕ) (s : State) (h : Capped a b s) where
     start = h .start;
     number = le;
     stored = λ o l. slots-capped a (b + 1) s (s .own) (ownProposal m n s) _ o
-        (λ o l. slot-le a (b + 1) (omega arith) (omega arith) (h .stored o l)) (record { start = λ e. h .start; number = λ e. le }) l
+        (λ o l. slot-le a (b + 1) (omega arith) (omega arith) (h .stored o l))
+        (record { start = λ e. h .start; number = λ e. le }) l
         (proposed-reads s m n .stored-is o l);
   }
 
@@ -150,8 +157,10 @@ module _ (k : ℕ) where
       busy e = let z : _≡_ {A = ℕ} 0 1 = cc in omega arith
 
   called : (s : State) → First s → Capped (k + 1) (k + 2) (slowRound s .state)
-  called s (not-yet h) = capped-le (k + 1) (k + 1) _ (called-capped k k s h) (k + 1) (k + 2) (omega arith) (omega arith)
-  called s (opened-once n h) = capped-le (k + 1) (k + 1 + 1) _ (busy-capped (k + 1) (k + 1) s h n) (k + 1) (k + 2) (omega arith) (omega arith)
+  called s (not-yet h) =
+      capped-le (k + 1) (k + 1) _ (called-capped k k s h) (k + 1) (k + 2) (omega arith) (omega arith)
+  called s (opened-once n h) =
+      capped-le (k + 1) (k + 1 + 1) _ (busy-capped (k + 1) (k + 1) s h n) (k + 1) (k + 2) (omega arith) (omega arith)
 
   uncalled : (s : State) → First s → Capped (k + 1) (k + 2) s
   uncalled s (not-yet h) = capped-le k k s h (k + 1) (k + 2) (omega arith) (omega arith)
@@ -180,17 +189,20 @@ module _ (k : ℕ) where
       let b : Capped k k t = withNet-capped k k s h _ in
       staged-report bounds s r (λ e. idle s h) (λ e. idle t b) (λ e. reported t b)
 
-  pub proposal-raises : (s : State) (p : Proposal) → Capped k k s → p .start ≤ k → p .number ≤ k → Raised k (proposalRule s p .state)
+  pub proposal-raises : (s : State) (p : Proposal) → Capped k k s → p .start ≤ k → p .number ≤ k
+      → Raised k (proposalRule s p .state)
   proposal-raises s p h x y =
       let b = received-capped k k s h p x y in
       staged-proposal bounds s p (λ e. idle (received s p) b) (λ e. not-yet b)
 
-pub low-report : (s : State) (r : Report) → wellFormed s ≡ true → Capped low low s → wellFormed (reportRule s r .state) ≡ true
+pub low-report : (s : State) (r : Report) → wellFormed s ≡ true → Capped low low s
+    → wellFormed (reportRule s r .state) ≡ true
 low-report s r w h =
     let m = report-raises low s r h in
     made-well s (aReport r) w tt (record { start = omega arith; number = omega arith; view = omega arith })
 
-pub low-proposal : (s : State) (p : Proposal) → wellFormed s ≡ true → Capped low low s → p .start ≤ low → p .number ≤ low
+pub low-proposal : (s : State) (p : Proposal) → wellFormed s ≡ true → Capped low low s → p .start ≤ low
+    → p .number ≤ low
     → ((o : ℕ) → o < 16 → usedFor p o ≤ limit) → wellFormed (proposalRule s p .state) ≡ true
 low-proposal s p w h x y u =
     let m = proposal-raises low s p h x y in

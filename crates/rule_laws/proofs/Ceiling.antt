@@ -1,5 +1,6 @@
--- Check 13. The numbers that an event makes are start, proposal and view numbers; every other number of the state it leaves is a copy
--- of one that was there or came with the proposal. So the state left passes check 2 exactly when these three stay within L.
+-- Check 13. The numbers that an event makes are start, proposal and view numbers; every other number of the state it
+-- leaves is a copy of one that was there or came with the proposal. So the state left passes check 2 exactly when
+-- these three stay within L.
 use mathlib.Core.Path.{_≡_, refl}
 use mathlib.Core.Bool.{true, false}
 use mathlib.Core.List.{List}
@@ -14,7 +15,8 @@ use Rattle.laws.proofs.Upd.{upd-cases}
 use Rattle.seats.specs.Offices.{serves}
 use Rattle.records.specs.declared.Proposal.{Proposal}
 use Rattle.rules.specs.State.{Mode, Fast, Slow, Slot, State, keeping, storedAt, acceptedAt, usedAt, numberIn}
-use Rattle.rules.specs.Rules.{Written, Outcome, nothingWritten, andThen, withNet, opened, opens, ownProposal, proposed, nextNumber, slowNumber, proposesFast}
+use Rattle.rules.specs.Rules.{Written, Outcome, nothingWritten, andThen, withNet, opened, opens, ownProposal}
+use Rattle.rules.specs.Rules.{proposed, nextNumber, slowNumber, proposesFast}
 use Rattle.rules.specs.Rules.{proposesSlow, startOf, viewOf, concluded, agreed}
 use Rattle.records.specs.Numbers.{limit}
 use Rattle.rules.specs.Refusals.{wellFormed, Event, aReport, aProposal, refusalOf, ruleOf}
@@ -46,7 +48,8 @@ pub record Copies (s : State) (o : Outcome) : Type 0 where
 copies-none : (s : State) → Copies s (nothingWritten s)
 copies-none s = record { start = omega arith; number = omega arith; copied = λ c a b. c }
 
-pub copies-then : (s : State) (o : Outcome) (f : State → Outcome) → Copies s o → Copies (o .state) (f (o .state)) → Copies s (andThen o f)
+pub copies-then : (s : State) (o : Outcome) (f : State → Outcome) → Copies s o → Copies (o .state) (f (o .state))
+    → Copies s (andThen o f)
 unfolding andThen
 copies-then s o f a b =
     let x = a .start in
@@ -64,13 +67,20 @@ unfolding opens opened
 copies-open s = record {
   start = omega arith;
   number = omega arith;
-  copied = λ c p q. record { own = c .own; starts = c .starts; accepted = c .accepted; used = c .used; stored = c .stored };
+  copied = λ c p q. record {
+    own = c .own;
+    starts = c .starts;
+    accepted = c .accepted;
+    used = c .used;
+    stored = c .stored;
+  };
 }
 
 -- what one office's slot becomes is within L, and so is every slot
 slots-within : (s : State) (i : ℕ) (p : Proposal) (v : Slot) (o : ℕ) → Copied s → SlotWithin (keeping p)
     → o < 16 → v ≡ upd (storedAt s) i (keeping p) o → v .present ≡ true → SlotWithin v
-slots-within s i p v o c w l e = rw e (upd-cases (λ (o : ℕ) (v : Slot). o < 16 → v .present ≡ true → SlotWithin v) (storedAt s) i (keeping p) o
+slots-within s i p v o c w l e =
+    rw e (upd-cases (λ (o : ℕ) (v : Slot). o < 16 → v .present ≡ true → SlotWithin v) (storedAt s) i (keeping p) o
     (λ l e. w) (λ n l. c .stored o l) l)
 
 -- a proposal is made with a number above the own one
@@ -83,7 +93,8 @@ module _ (s : State) (m : Mode) (n : ℕ) where
       record {
         start = omega arith;
         number = omega arith;
-        used = λ o l. rw (made-used s m n o l) (if-le (serves (s .net .bits) o) (usedAt s o) 0 limit (c .used o l) (omega arith));
+        used = λ o l. rw (made-used s m n o l)
+            (if-le (serves (s .net .bits) o) (usedAt s o) 0 limit (c .used o l) (omega arith));
       }
 
   copies-proposed : (ws : List Written) → s .number < n → Copies s (record { state = proposed m n s; written = ws })
@@ -96,7 +107,8 @@ module _ (s : State) (m : Mode) (n : ℕ) where
       starts = c .starts;
       accepted = c .accepted;
       used = c .used;
-      stored = λ o l. slots-within s (s .own) (ownProposal m n s) _ o c (made-within c p q) l (proposed-reads s m n .stored-is o l);
+      stored = λ o l. slots-within s (s .own) (ownProposal m n s) _ o c (made-within c p q) l
+          (proposed-reads s m n .stored-is o l);
     };
   }
 
@@ -131,7 +143,8 @@ module _ (s : State) (a : AllAgree s) (c : Copied s) where
         starts = λ o l. rw (r .view-is) (view-starts o l);
         accepted = λ o l. rw (r .accepted-is o l) (c .accepted o l);
         used = λ o l. rw (r .used-is o l) (counted-used o l);
-        stored = λ o l. rw (r .stored-is o l) (if-cases (λ (v : Slot). v .present ≡ true → SlotWithin v) (serves (s .net .bits) o) _ _
+        stored = λ o l. rw (r .stored-is o l)
+            (if-cases (λ (v : Slot). v .present ≡ true → SlotWithin v) (serves (s .net .bits) o) _ _
             (λ e p. absurd (true-false false p refl)) (λ e. c .stored o l));
       }
 
@@ -161,23 +174,27 @@ Fitting (aProposal p) = SlotWithin (keeping p)
 
 pub arrived-copied : (s : State) (e : Event) → Fitting e → Copied s → Copied (arrived s e)
 unfolding withNet
-arrived-copied s (aReport r) f c = record { own = c .own; starts = c .starts; accepted = c .accepted; used = c .used; stored = c .stored }
+arrived-copied s (aReport r) f c =
+    record { own = c .own; starts = c .starts; accepted = c .accepted; used = c .used; stored = c .stored }
 arrived-copied s (aProposal p) f c =
     let q = received-reads s p in
     record {
       own = rw (q .own-is) (c .own);
       starts = λ o l. rw (q .view-is) (c .starts o l);
       accepted = λ o l. rw (q .accepted-is o l)
-          (upd-cases (λ (o : ℕ) (n : ℕ). o < 16 → n ≤ limit) (acceptedAt s) (p .sender) (p .number) o (λ l. f .number) (λ n l. c .accepted o l) l);
+          (upd-cases (λ (o : ℕ) (n : ℕ). o < 16 → n ≤ limit) (acceptedAt s) (p .sender) (p .number) o (λ l. f .number)
+          (λ n l. c .accepted o l) l);
       used = λ o l. rw (q .used-is o l) (c .used o l);
       stored = λ o l. slots-within s (p .sender) p _ o c f l (q .stored-is o l);
     }
 
 pub well-copied : (s : State) → wellFormed s ≡ true → Copied s
-well-copied s w = let h = well-facts s w in record { own = h .own; starts = h .starts; accepted = h .accepted; used = h .used; stored = h .stored }
+well-copied s w = let h = well-facts s w in
+    record { own = h .own; starts = h .starts; accepted = h .accepted; used = h .used; stored = h .stored }
 
 -- no number made is above L: then the state left passes check 2
-pub made-well : (s : State) (e : Event) → wellFormed s ≡ true → Fitting e → MadeWithin (ruleOf s e .state) → wellFormed (ruleOf s e .state) ≡ true
+pub made-well : (s : State) (e : Event) → wellFormed s ≡ true → Fitting e → MadeWithin (ruleOf s e .state)
+    → wellFormed (ruleOf s e .state) ≡ true
 made-well s e w f m = facts-well _
     (record {
       own = c .own;
@@ -195,12 +212,14 @@ made-well s e w f m = facts-well _
 
 pub accepted-fits : (s : State) (e : Event) → refusalOf s e ≡ 0 → Fitting e
 accepted-fits s (aReport r) z = tt
-accepted-fits s (aProposal p) z = let h = check-facts s p z in record { start = h .start .1; number = h .number .1; used = h .used }
+accepted-fits s (aProposal p) z = let h = check-facts s p z in
+    record { start = h .start .1; number = h .number .1; used = h .used }
 
 -- and only then
 pub ceiling : (s : State) (e : Event) → wellFormed s ≡ true → refusalOf s e ≡ 0
     → (wellFormed (ruleOf s e .state) ≡ true)
-    ↔ ((ruleOf s e .state .start ≤ limit) × (ruleOf s e .state .number ≤ limit) × (ruleOf s e .state .view .number ≤ limit))
+    ↔ ((ruleOf s e .state .start ≤ limit) × (ruleOf s e .state .number ≤ limit)
+    × (ruleOf s e .state .view .number ≤ limit))
 ceiling s e w z = (
   λ h. let f = well-facts _ h in (f .start, f .number, f .view),
   λ h. made-well s e w (accepted-fits s e z) (record { start = h .0; number = h .1; view = h .2 }),

@@ -12,7 +12,8 @@ use Rattle.seats.specs.Offices.{serves}
 use Rattle.records.specs.declared.Proposal.{Proposal}
 use Rattle.rules.specs.State.{State, fast, slow, acceptedAt, usedFor}
 use Rattle.laws.specs.Checks.{firstOf}
-use Rattle.rules.specs.Refusals.{formChecks, wrongSender, wrongKind, wrongNumber, withoutSeat, strayUsed, notAbove, usedAhead, proposalChecks}
+use Rattle.rules.specs.Refusals.{formChecks, wrongSender, wrongKind, wrongNumber, withoutSeat, strayUsed, notAbove}
+use Rattle.rules.specs.Refusals.{usedAhead, proposalChecks}
 
 -- the first of 6 to 10 that applies, and the first of them and of more
 abbrev first : Bool → Bool → Bool → Bool → Bool → ℕ → ℕ
@@ -77,7 +78,8 @@ module _ (own : ℕ) (p : Proposal) where
 module _ (s : State) (p : Proposal) (n : ℕ) (e : n ≡ firstOf (formChecks (s .own) p)) where
   split : firstOf (proposalChecks s p) ≡ ifb (eqb n 0) (ifb (notAbove s p) 11 (ifb (usedAhead s p) 12 0)) n
   unfolding proposalChecks
-  split = rw e (first-then (wrongSender (s .own) p) (wrongKind p) (wrongNumber p) (withoutSeat (s .own) p) (strayUsed p)
+  split = rw e (first-then (wrongSender (s .own) p) (wrongKind p) (wrongNumber p) (withoutSeat (s .own) p)
+      (strayUsed p)
       (ifb (notAbove s p) 11 (ifb (usedAhead s p) 12 0)))
 
   pub checked-form : (n ≡ 0 → ⊥) → n ≡ firstOf (proposalChecks s p)

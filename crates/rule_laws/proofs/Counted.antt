@@ -1,5 +1,5 @@
--- A proposal serves one view: where an event writes a view, each office of its members had a proposal with these members stored; its start
--- number is in the view, its number is the used number, and it is stored no more.
+-- A proposal serves one view: where an event writes a view, each office of its members had a proposal with these
+-- members stored; its start number is in the view, its number is the used number, and it is stored no more.
 use mathlib.Core.Path.{_≡_, refl, sym, ap, _∙_}
 use mathlib.Core.Bool.{true}
 use mathlib.Core.Logic.{_⊎_, inl, inr}
@@ -14,8 +14,10 @@ use Rattle.seats.specs.Offices.{serves}
 use Rattle.records.specs.declared.Proposal.{Proposal}
 use Rattle.records.specs.declared.View.{View}
 use Rattle.rules.specs.State.{Mode, Fast, Slow, Slot, State, nothing, keeping, storedAt, usedAt}
-use Rattle.rules.specs.Rules.{Written, notice, proposal, view, Outcome, nothingWritten, andThen, opened, noticeOf, opens, nextNumber, ownProposal}
-use Rattle.rules.specs.Rules.{proposed, proposesFast, slowNumber, proposesSlow, inSlot, agreed, startOf, viewOf, concluded}
+use Rattle.rules.specs.Rules.{Written, notice, proposal, view, Outcome, nothingWritten, andThen, opened, noticeOf}
+use Rattle.rules.specs.Rules.{opens, nextNumber, ownProposal}
+use Rattle.rules.specs.Rules.{proposed, proposesFast, slowNumber, proposesSlow, inSlot, agreed, startOf, viewOf}
+use Rattle.rules.specs.Rules.{concluded}
 use Rattle.rules.specs.Refusals.{Event, eventOf, ruleOf, stepOf}
 use Rattle.rule_laws.proofs.Parts.{opened-reads, proposed-reads, concluded-reads}
 use Rattle.rule_laws.proofs.Tests.{agreed-out}
@@ -54,7 +56,8 @@ no-view s t (view v) h = absurd h
 keeps-none : (s : State) → Keeps s (nothingWritten s)
 keeps-none s = record { own = refl; stored = λ k l n. refl; written = none }
 
-keeps-then : (s : State) (o : Outcome) (f : State → Outcome) → Keeps s o → Keeps (o .state) (f (o .state)) → Keeps s (andThen o f)
+keeps-then : (s : State) (o : Outcome) (f : State → Outcome) → Keeps s o → Keeps (o .state) (f (o .state))
+    → Keeps s (andThen o f)
 unfolding andThen
 keeps-then s o f a b = record {
   own = b .own ∙ a .own;
@@ -66,9 +69,14 @@ keeps-open : (s : State) → Keeps s (opens s)
 unfolding opens
 keeps-open s =
     let r = opened-reads s in
-    record { own = r .own-is; stored = λ k l n. r .stored-is k l; written = more {a = notice (noticeOf (opened s))} tt none }
+    record {
+      own = r .own-is;
+      stored = λ k l n. r .stored-is k l;
+      written = more {a = notice (noticeOf (opened s))} tt none;
+    }
 
-keeps-proposed : (s : State) (m : Mode) (n : ℕ) (ws : List Written) → Every NoView ws → Keeps s (record { state = proposed m n s; written = ws })
+keeps-proposed : (s : State) (m : Mode) (n : ℕ) (ws : List Written) → Every NoView ws
+    → Keeps s (record { state = proposed m n s; written = ws })
 keeps-proposed s m n ws e =
     let r = proposed-reads s m n in
     record {
@@ -93,7 +101,8 @@ counts-view : (s : State) → agreed s ≡ true → CountsAll s (concludes s)
 unfolding viewOf startOf
 counts-view s a = more {a = view (viewOf s)} each none
   where
-    each : (o : ℕ) → o < 16 → serves (viewOf s .members .bits) o ≡ true → (p : Proposal) × Counts s (concluded s) (viewOf s) o p
+    each : (o : ℕ) → o < 16 → serves (viewOf s .members .bits) o ≡ true
+        → (p : Proposal) × Counts s (concluded s) (viewOf s) o p
     each o l e =
         let g = agreed-out s a .every o l e in
         let r = concluded-reads s in (
@@ -124,11 +133,13 @@ counted-from s u t own stored (view v) h = λ o l e.
       },
     )
 
-counts-then : (s : State) (o : Outcome) (f : State → Outcome) → Keeps s o → CountsAll (o .state) (f (o .state)) → CountsAll s (andThen o f)
+counts-then : (s : State) (o : Outcome) (f : State → Outcome) → Keeps s o → CountsAll (o .state) (f (o .state))
+    → CountsAll s (andThen o f)
 unfolding andThen
 counts-then s o f a b =
     let t = f (o .state) .state in
-    every-append (every-map (no-view s t) (a .written)) (every-map (counted-from s (o .state) t (a .own) (a .stored)) b)
+    every-append (every-map (no-view s t) (a .written))
+    (every-map (counted-from s (o .state) t (a .own) (a .stored)) b)
 
 counting : Walk Keeps CountsAll
 counting = record {
@@ -150,6 +161,7 @@ pub step-counted : (s : State) (b : List ℕ) (room : ℕ)
     → Every (Counted (arrived s (eventOf b)) (stepOf s b room .state)) (stepOf s b room .written)
 step-counted s b room = go (step-cases s b room)
   where
-    go : Refused s (stepOf s b room) ⊎ Accepts s b room → Every (Counted (arrived s (eventOf b)) (stepOf s b room .state)) (stepOf s b room .written)
+    go : Refused s (stepOf s b room) ⊎ Accepts s b room
+        → Every (Counted (arrived s (eventOf b)) (stepOf s b room .state)) (stepOf s b room .written)
     go (inl r) = rw (r .is) none
     go (inr a) = rw (step-accepts s b room a) (event-counted s (eventOf b))

@@ -13,7 +13,8 @@ use Rattle.rules.specs.Refusals.{aReport, aProposal, eventOf}
 
 mark-proposal : (p : Proposal) → markOf (encodeProposal p) ≡ 0x5052
 unfolding markOf encodeProposal
-mark-proposal p = let two : 2 ≤ length (encodeProposal p) = omega arith in rw (le-ltb (length (encodeProposal p)) 2 two)
+mark-proposal p = let two : 2 ≤ length (encodeProposal p) = omega arith in
+    rw (le-ltb (length (encodeProposal p)) 2 two)
 
 pub report-event : (r : Report) → FitsReport r → eventOf (encodeReport r) ≡ aReport r
 unfolding eventOf markOf encodeReport

@@ -8,11 +8,13 @@ use native.Mathlib.Omega.{arith}
 use native.Mathlib.Decide.{decLt}
 use borrow.Author.Tests.{lt-ltb, le-ltb, le-leb, lt-leb, ne-eqb}
 use Rattle.laws.specs.Upd.{ifb}
-use Rattle.records.specs.Layout.{reportMark, proposalMark, reportLength, proposalLength, checkOf, checkOwn, decodeReport, decodeProposal}
+use Rattle.records.specs.Layout.{reportMark, proposalMark, reportLength, proposalLength, checkOf, checkOwn}
+use Rattle.records.specs.Layout.{decodeReport, decodeProposal}
 use Rattle.records.proofs.CheckLaws.{own-mark}
 use Rattle.rules.specs.State.{State}
 use Rattle.rules.specs.Rules.{fresh}
-use Rattle.rules.specs.Refusals.{wellFormed, fullRoom, madeOf, unreadable, Event, aReport, aProposal, eventOf, refusalOf, ruleOf}
+use Rattle.rules.specs.Refusals.{wellFormed, fullRoom, madeOf, unreadable, Event, aReport, aProposal, eventOf}
+use Rattle.rules.specs.Refusals.{refusalOf, ruleOf}
 use Rattle.rules.specs.Refusals.{refused, accepting, actOf, stepOf, allBytes, size}
 use Rattle.rule_laws.proofs.Steps.{Refused, Accepts, step-cases, fresh-well}
 use Rattle.rule_laws.proofs.Sizes.{step-size}
@@ -66,7 +68,8 @@ module _ (s : State) (e : Event) where
   unfolding actOf accepting
   act-passed z = rw z (go (wellFormed (ruleOf s e .state)) refl)
     where
-      go : (t : Bool) → wellFormed (ruleOf s e .state) ≡ t → accepting s (ruleOf s e) .refusal ≡ ifb (wellFormed (ruleOf s e .state)) 0 13
+      go : (t : Bool) → wellFormed (ruleOf s e .state) ≡ t
+          → accepting s (ruleOf s e) .refusal ≡ ifb (wellFormed (ruleOf s e .state)) 0 13
       go true w = rw w
       go false w = rw w
 
@@ -75,7 +78,8 @@ pub report-read : (b : List ℕ) → checkOwn reportMark reportLength b ≡ 0 �
 unfolding eventOf
 report-read b c = rw (own-mark reportMark reportLength b c)
 
-pub proposal-read : (b : List ℕ) → checkOwn proposalMark proposalLength b ≡ 0 → eventOf b ≡ aProposal (decodeProposal b)
+pub proposal-read : (b : List ℕ) → checkOwn proposalMark proposalLength b ≡ 0
+    → eventOf b ≡ aProposal (decodeProposal b)
 unfolding eventOf
 proposal-read b c = rw (own-mark proposalMark proposalLength b c)
 

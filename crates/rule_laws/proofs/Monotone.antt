@@ -24,7 +24,8 @@ use Rattle.rules.specs.Rules.{nextNumber, ownProposal, proposed, hasRecipient, 
 use Rattle.rules.specs.Rules.{agreed, concluded}
 
 -- the number of a new proposal is above the stored numbers of the net view's offices
-pub next-above-stored : (s : State) (o : ℕ) → o < 16 → serves (s .net .bits) o ≡ true → numberIn (storedAt s o) < nextNumber s
+pub next-above-stored : (s : State) (o : ℕ) → o < 16 → serves (s .net .bits) o ≡ true
+    → numberIn (storedAt s o) < nextNumber s
 unfolding nextNumber
 next-above-stored s o l e =
     let a = largest-le 16 (λ o. ifb (serves (s .net .bits) o) (numberIn (storedAt s o)) 0) o l in
@@ -36,7 +37,8 @@ pub data Ascending : ℕ → List Written → ℕ → Type 0 where
   at-end : {n m : ℕ} → n ≤ m → Ascending n [] m
   past-notice : {n m : ℕ} {x : Notice} {ws : List Written} → Ascending n ws m → Ascending n (notice x ∷ ws) m
   past-view : {n m : ℕ} {x : View} {ws : List Written} → Ascending n ws m → Ascending n (view x ∷ ws) m
-  past-proposal : {n m : ℕ} {p : Proposal} {ws : List Written} → n < p .number → Ascending (p .number) ws m → Ascending n (proposal p ∷ ws) m
+  past-proposal : {n m : ℕ} {p : Proposal} {ws : List Written} → n < p .number → Ascending (p .number) ws m
+      → Ascending n (proposal p ∷ ws) m
 
 ascending-from : {n k m : ℕ} {ws : List Written} → n ≤ k → Ascending k ws m → Ascending n ws m
 ascending-from l (at-end h) = at-end (le-trans l h)
@@ -60,7 +62,8 @@ pub record Grows (s : State) (o : Outcome) : Type 0 where
 none-grows : (s : State) → Grows s (nothingWritten s)
 none-grows s = record { own = refl; accepted = refl; start = le-refl _; numbers = at-end (le-refl _) }
 
-then-grows : (s : State) (o : Outcome) (f : State → Outcome) → Grows s o → Grows (o .state) (f (o .state)) → Grows s (andThen o f)
+then-grows : (s : State) (o : Outcome) (f : State → Outcome) → Grows s o → Grows (o .state) (f (o .state))
+    → Grows s (andThen o f)
 unfolding andThen
 then-grows s o f h k = record {
   own = k .own ∙ h .own;
@@ -87,7 +90,12 @@ fast-grows s =
 
 slow-grows : (s : State) → Grows s (proposesSlow s)
 unfolding proposesSlow proposed ownProposal
-slow-grows s = record { own = refl; accepted = refl; start = le-refl _; numbers = past-proposal (slow-above s) (at-end (le-refl _)) }
+slow-grows s = record {
+  own = refl;
+  accepted = refl;
+  start = le-refl _;
+  numbers = past-proposal (slow-above s) (at-end (le-refl _));
+}
 
 view-grows : (s : State) → agreed s ≡ true → Grows s (concludes s)
 unfolding concluded

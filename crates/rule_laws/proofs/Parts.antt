@@ -10,7 +10,8 @@ use Rattle.rules.specs.State.{Mode, None, Slot, State, kindOf, nothing, keeping
 use Rattle.rules.specs.Rules.{fresh, withNet, opened, ownProposal, proposed, received, concluded, viewOf}
 
 -- the parts of a state, those of an office o for every o below 16
-pub record Reads (t : State) (own : ℕ) (mode : Mode) (net : ℕ) (stored : ℕ → Slot) (accepted : ℕ → ℕ) (view : View) (start number : ℕ)
+pub record Reads (t : State) (own : ℕ) (mode : Mode) (net : ℕ) (stored : ℕ → Slot) (accepted : ℕ → ℕ) (view : View)
+    (start number : ℕ)
     (used : ℕ → ℕ) : Type 0 where
   pub own-is : t .own ≡ own
   pub mode-is : t .mode ≡ mode
@@ -83,7 +84,8 @@ module _ (s : State) where
   }
 
   pub received-reads : (p : Proposal) → Reads (received s p) (s .own) (s .mode) (s .net .bits)
-      (upd (storedAt s) (p .sender) (keeping p)) (upd (acceptedAt s) (p .sender) (p .number)) (s .view) (s .start) (s .number) (usedAt s)
+      (upd (storedAt s) (p .sender) (keeping p)) (upd (acceptedAt s) (p .sender) (p .number)) (s .view) (s .start)
+      (s .number) (usedAt s)
   unfolding received
   received-reads p = record {
     own-is = refl;
@@ -115,10 +117,12 @@ module _ (s : State) where
 
   -- what stands in the proposal made
   pub made-is : (m : Mode) (n : ℕ) → (ownProposal m n s .sender ≡ s .own) × (ownProposal m n s .kind ≡ kindOf m)
-      × (ownProposal m n s .members .bits ≡ s .net .bits) × (ownProposal m n s .start ≡ s .start) × (ownProposal m n s .number ≡ n)
+      × (ownProposal m n s .members .bits ≡ s .net .bits) × (ownProposal m n s .start ≡ s .start)
+      × (ownProposal m n s .number ≡ n)
   unfolding ownProposal
   made-is m n = (refl, refl, refl, refl, refl)
 
-  pub made-used : (m : Mode) (n o : ℕ) → o < 16 → usedFor (ownProposal m n s) o ≡ ifb (serves (s .net .bits) o) (usedAt s o) 0
+  pub made-used : (m : Mode) (n o : ℕ) → o < 16
+      → usedFor (ownProposal m n s) o ≡ ifb (serves (s .net .bits) o) (usedAt s o) 0
   unfolding ownProposal
   made-used m n o h = getD-tab 16 _ o 0 h

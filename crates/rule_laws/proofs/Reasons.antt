@@ -11,7 +11,8 @@ use Rattle.laws.proofs.Fin.{if-cases, as-facts}
 use Rattle.records.specs.Layout.{formOf, checkFor, checkOf}
 use Rattle.rules.specs.State.{State}
 use Rattle.laws.specs.Checks.{Check, firstOf}
-use Rattle.rules.specs.Refusals.{wellFormed, fullRoom, Made, madeOf, unreadable, Event, aReport, aProposal, eventOf, proposalChecks, refusalOf}
+use Rattle.rules.specs.Refusals.{wellFormed, fullRoom, Made, madeOf, unreadable, Event, aReport, aProposal, eventOf}
+use Rattle.rules.specs.Refusals.{proposalChecks, refusalOf}
 use Rattle.rules.specs.Refusals.{ruleOf, Result, accepting, actOf, stepOf}
 
 -- 0, or from 2 to 13
@@ -22,7 +23,8 @@ pub data Answer (n : ℕ) : Type 0 where
 -- the first of checks with such numbers
 first-answer : (cs : List Check) → Every (λ c. Answer (c .number)) cs → Answer (firstOf cs)
 first-answer [] none = accepts refl
-first-answer (c ∷ cs) (more a e) = if-cases Answer (c .applies) (c .number) (firstOf cs) (λ t. a) (λ t. first-answer cs e)
+first-answer (c ∷ cs) (more a e) =
+    if-cases Answer (c .applies) (c .number) (firstOf cs) (λ t. a) (λ t. first-answer cs e)
 
 reason : (n : ℕ) → leb 2 n && leb n 13 ≡ true → Answer n
 reason n e = let f = simp as-facts at e in refuses (f .0) (f .1)
@@ -31,7 +33,8 @@ checked-answer : (b : List ℕ) → Answer (checkOf b)
 unfolding checkOf checkFor
 checked-answer b =
     let n = formOf b .length in
-    if-cases Answer (eqb n 0) _ _ (λ e. reason 4 refl) (λ e. if-cases Answer (eqb (length b) n) _ _ (λ f. accepts refl) (λ f. reason 5 refl))
+    if-cases Answer (eqb n 0) _ _ (λ e. reason 4 refl)
+    (λ e. if-cases Answer (eqb (length b) n) _ _ (λ f. accepts refl) (λ f. reason 5 refl))
 
 unreadable-answer : (s : State) (b : List ℕ) (room : ℕ) → Answer (unreadable s b room)
 unfolding unreadable
@@ -50,7 +53,8 @@ event-answer s (aProposal p) = first-answer (proposalChecks s p)
 act-answer : (s : State) (e : Event) → Answer (actOf s e .refusal)
 unfolding actOf accepting
 act-answer s e = if-cases (λ (r : Result). Answer (r .refusal)) (eqb (refusalOf s e) 0) _ _
-    (λ t. if-cases (λ (r : Result). Answer (r .refusal)) (wellFormed (ruleOf s e .state)) _ _ (λ w. accepts refl) (λ w. reason 13 refl))
+    (λ t. if-cases (λ (r : Result). Answer (r .refusal)) (wellFormed (ruleOf s e .state)) _ _ (λ w. accepts refl)
+    (λ w. reason 13 refl))
     (λ t. event-answer s e)
 
 pub step-answer : (s : State) (b : List ℕ) (room : ℕ) → Answer (stepOf s b room .refusal)
@@ -60,4 +64,5 @@ step-answer s b room = if-cases (λ (r : Result). Answer (r .refusal)) (eqb (unr
 
 pub made-answer : (o : ℕ) → (madeOf o .refusal ≡ 0) ⊎ (madeOf o .refusal ≡ 1)
 unfolding madeOf
-made-answer o = if-cases (λ (m : Made). (m .refusal ≡ 0) ⊎ (m .refusal ≡ 1)) (leb o 15) _ _ (λ e. inl refl) (λ e. inr refl)
+made-answer o = if-cases (λ (m : Made). (m .refusal ≡ 0) ⊎ (m .refusal ≡ 1)) (leb o 15) _ _ (λ e. inl refl)
+    (λ e. inr refl)

@@ -1,4 +1,5 @@
--- A proposal's sender has a seat among the members (step 2), so it has a recipient exactly where the members are of more offices than one.
+-- A proposal's sender has a seat among the members (step 2), so it has a recipient exactly where the members are of
+-- more offices than one.
 use mathlib.Core.Path.{_≡_, refl, sym, _∙_}
 use mathlib.Core.Bool.{true}
 use Prim.Native.Nat.{ℕ, _+_, _<_}
@@ -41,4 +42,5 @@ pub recipient-count : (p : Proposal) → p .sender < 16 → serves (p .members .
 unfolding receives
 recipient-count p h e =
     any-count 16 (receives p)
-    ∙ more-than-one (sum 16 (λ o. ifb (receives p o) 1 0)) (countOf (p .members .bits)) (others-count (p .members .bits) (p .sender) h e)
+    ∙ more-than-one (sum 16 (λ o. ifb (receives p o) 1 0)) (countOf (p .members .bits))
+    (others-count (p .members .bits) (p .sender) h e)

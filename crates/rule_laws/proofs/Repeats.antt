@@ -1,4 +1,5 @@
--- Repeats, reports that leave the net view equal to what it was: each is accepted and does nothing, and the ceiling is not met by it.
+-- Repeats, reports that leave the net view equal to what it was: each is accepted and does nothing, and the ceiling
+-- is not met by it.
 use mathlib.Core.Path.{_≡_, refl, ap, _∙_}
 use mathlib.Core.Bool.{true, false}
 use mathlib.Core.List.{List}
@@ -51,11 +52,15 @@ module _ (s : State) (r : Report) where
     pub repeat-acts : actOf s (aReport r) ≡ accepted (nothingWritten s)
     repeat-acts = act-accepts s (aReport r) repeat-accepted ∙ ap accepted (repeat-rule e)
 
-    pub repeat-step : (b : List ℕ) (room : ℕ) → fullRoom ≤ room → checkOf b ≡ 0 → eventOf b ≡ aReport r → stepOf s b room ≡ accepted (nothingWritten s)
+    pub repeat-step : (b : List ℕ) (room : ℕ) → fullRoom ≤ room → checkOf b ≡ 0 → eventOf b ≡ aReport r
+        → stepOf s b room ≡ accepted (nothingWritten s)
     repeat-step b room fits read is =
         step-accepts s b room (record { well = well; fits = fits; readable = read; acts = rw is repeat-accepted })
         ∙ rw is (ap accepted (repeat-rule e))
 
 -- where a report has made the net view, the same report again is a repeat
-pub again-repeats : (t : State) (x : ℕ) (r : Report) → x < 2 ^ 64 → FitsReport r → t .net .bits ≡ netAfter x r → repeats t r ≡ true
-again-repeats t x r l f e = net-repeat t r (rw e (unfold netAfter in joined-again x (r .joining .bits) (r .leaving .bits) l (f .joining) (f .leaving)))
+pub again-repeats : (t : State) (x : ℕ) (r : Report) → x < 2 ^ 64 → FitsReport r → t .net .bits ≡ netAfter x r
+    → repeats t r ≡ true
+again-repeats t x r l f e =
+    net-repeat t r (rw e (unfold netAfter in
+    joined-again x (r .joining .bits) (r .leaving .bits) l (f .joining) (f .leaving)))

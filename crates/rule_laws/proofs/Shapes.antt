@@ -16,7 +16,8 @@ use Rattle.records.specs.Layout.{markOf}
 use Rattle.records.specs.declared.Proposal.{Proposal}
 use Rattle.records.proofs.OwnChecks.{used-sixteen}
 use Rattle.rules.specs.State.{Mode, Fast, Slow, Slot, State, nothing, keeping, storedAt}
-use Rattle.rules.specs.Rules.{Outcome, andThen, withNet, opened, opens, ownProposal, proposed, nextNumber, proposesFast, received, slowNumber, proposesSlow}
+use Rattle.rules.specs.Rules.{Outcome, andThen, withNet, opened, opens, ownProposal, proposed, nextNumber}
+use Rattle.rules.specs.Rules.{proposesFast, received, slowNumber, proposesSlow}
 use Rattle.rules.specs.Rules.{viewOf, concluded, netAfter}
 use Rattle.rules.specs.Refusals.{Event, aReport, aProposal, eventOf, ruleOf}
 use Rattle.rule_laws.proofs.Walk.{Walk, walk-event}
@@ -37,20 +38,36 @@ slots-of f h o = go (decLt o 16)
   where
     go : Dec (o < 16) → Used16 (getD (tab 16 f) o nothing)
     go (yes l) = rw (getD-tab 16 f o nothing l) (h o)
-    go (no l) = let n = length-tab 16 f in rw (List·getD-eq-default (tab 16 f) nothing {n = o} (omega arith)) (length-tab 16 _)
+    go (no l) = let n = length-tab 16 f in
+        rw (List·getD-eq-default (tab 16 f) nothing {n = o} (omega arith)) (length-tab 16 _)
 
 -- one slot replaced
-slot-put : (s : State) (i : ℕ) (v : Slot) → Shaped s → Used16 v → (o : ℕ) → Used16 (getD (tab 16 (upd (storedAt s) i v)) o nothing)
-slot-put s i v h u = slots-of (upd (storedAt s) i v) (λ o. upd-cases (λ (o : ℕ) (w : Slot). Used16 w) (storedAt s) i v o u (λ n. h .slots o))
+slot-put : (s : State) (i : ℕ) (v : Slot) → Shaped s → Used16 v → (o : ℕ)
+    → Used16 (getD (tab 16 (upd (storedAt s) i v)) o nothing)
+slot-put s i v h u =
+    slots-of (upd (storedAt s) i v)
+    (λ o. upd-cases (λ (o : ℕ) (w : Slot). Used16 w) (storedAt s) i v o u (λ n. h .slots o))
 
 module _ (s : State) (h : Shaped s) where
   net-shaped : (x : ℕ) → Shaped (withNet s x)
   unfolding withNet
-  net-shaped x = record { stored = h .stored; slots = h .slots; accepted = h .accepted; starts = h .starts; used = h .used }
+  net-shaped x = record {
+    stored = h .stored;
+    slots = h .slots;
+    accepted = h .accepted;
+    starts = h .starts;
+    used = h .used;
+  }
 
   opened-shaped : Shaped (opened s)
   unfolding opened
-  opened-shaped = record { stored = h .stored; slots = h .slots; accepted = h .accepted; starts = h .starts; used = h .used }
+  opened-shaped = record {
+    stored = h .stored;
+    slots = h .slots;
+    accepted = h .accepted;
+    starts = h .starts;
+    used = h .used;
+  }
 
   proposed-shaped : (m : Mode) (n : ℕ) → Shaped (proposed m n s)
   unfolding proposed ownProposal
@@ -77,7 +94,8 @@ module _ (s : State) (h : Shaped s) where
   concluded-shaped = record {
     stored = length-tab 16 _;
     slots = slots-of (λ o. ifb (serves (s .net .bits) o) nothing (storedAt s o))
-        (λ o. if-cases Used16 (serves (s .net .bits) o) nothing (storedAt s o) (λ e. length-tab 16 _) (λ e. h .slots o));
+        (λ o. if-cases Used16 (serves (s .net .bits) o) nothing (storedAt s o) (λ e. length-tab 16 _)
+        (λ e. h .slots o));
     accepted = h .accepted;
     starts = length-tab 16 _;
     used = length-tab 16 _;

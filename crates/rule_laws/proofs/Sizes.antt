@@ -32,7 +32,8 @@ use Rattle.rule_laws.proofs.Tests.{Agreeing, agreed-in, agreed-out, slo
 pub bytes-append : (a b : List Written) → allBytes (a ++ b) ≡ allBytes a ++ allBytes b
 unfolding allBytes
 bytes-append [] b = refl
-bytes-append (w ∷ a) b = ap (λ (l : List ℕ). bytesOf w ++ l) (bytes-append a b) ∙ sym (append-assoc (bytesOf w) (allBytes a) (allBytes b))
+bytes-append (w ∷ a) b = ap (λ (l : List ℕ). bytesOf w ++ l) (bytes-append a b)
+    ∙ sym (append-assoc (bytesOf w) (allBytes a) (allBytes b))
 
 pub size-append : (a b : List Written) → size (a ++ b) ≡ size a + size b
 size-append a b = ap length (bytes-append a b) ∙ length-append (allBytes a) (allBytes b)
@@ -41,7 +42,8 @@ pub bytes-one : (w : Written) → allBytes (w ∷ []) ≡ bytesOf w
 unfolding allBytes
 bytes-one w = append-nil (bytesOf w)
 
-then-size : (o : Outcome) (f : State → Outcome) → size (andThen o f .written) ≡ size (o .written) + size (f (o .state) .written)
+then-size : (o : Outcome) (f : State → Outcome)
+    → size (andThen o f .written) ≡ size (o .written) + size (f (o .state) .written)
 unfolding andThen
 then-size o f = size-append (o .written) (f (o .state) .written)
 
@@ -108,13 +110,15 @@ proposalSizes =
 abbrev slowSize : Bool → Bool → ℕ
 slowSize c n = ifb c (ifb n noticeLength 0 + proposalLength) 0
 
-proposal-table : (c n : Bool) → (oneOf proposalSizes (slowSize c n) ≡ true) × (oneOf proposalSizes (slowSize c n + viewLength) ≡ true)
+proposal-table : (c n : Bool) → (oneOf proposalSizes (slowSize c n) ≡ true)
+    × (oneOf proposalSizes (slowSize c n + viewLength) ≡ true)
 unfolding oneOf
 proposal-table true true = (refl, refl)
 proposal-table true false = (refl, refl)
 proposal-table false n = (refl, refl)
 
-proposal-tested : Tested (λ o. size (o .written) ≡ 0) (λ o. (c : Bool) × (n : Bool) × (size (o .written) ≡ slowSize c n))
+proposal-tested : Tested (λ o. size (o .written) ≡ 0) (λ o. (c : Bool) × (n : Bool)
+    × (size (o .written) ≡ slowSize c n))
     (λ o. oneOf proposalSizes (size (o .written)) ≡ true)
 proposal-tested = record {
   called = λ o z c. (true, isNone (o .state .mode), omega (arith, then-size o slowRound, called-size (o .state)));
@@ -128,7 +132,8 @@ unfolding oneOf
 proposal-sizes s p = staged-proposal proposal-tested s p (λ e. rw none-size) (λ e. none-size)
 
 -- an office that is alone in the net view agrees with itself
-alone-agrees : (m : Mode) (n : ℕ) (s : State) → (m ≡ None → ⊥) → ((o : ℕ) → o < 16 → serves (s .net .bits) o ≡ true → o ≡ s .own)
+alone-agrees : (m : Mode) (n : ℕ) (s : State) → (m ≡ None → ⊥)
+    → ((o : ℕ) → o < 16 → serves (s .net .bits) o ≡ true → o ≡ s .own)
     → agreed (proposed m n s) ≡ true
 unfolding proposed ownProposal
 alone-agrees m n s busy h = agreed-in (proposed m n s) (record { busy = busy; every = at })
@@ -138,7 +143,8 @@ alone-agrees m n s busy h = agreed-in (proposed m n s) (record { busy = busy; ev
         let own : upd (storedAt s) (s .own) (keeping (ownProposal m n s)) o ≡ keeping (ownProposal m n s) =
         rw (h o l v) (upd-same (storedAt s) (s .own) (keeping (ownProposal m n s)))
         in
-        let e : storedAt (proposed m n s) o ≡ keeping (ownProposal m n s) = proposed-reads s m n .stored-is o l ∙ own in
+        let e : storedAt (proposed m n s) o ≡ keeping (ownProposal m n s) = proposed-reads s m n .stored-is o l
+        ∙ own in
         record {
           is-there = ap (λ (x : Slot). x .present) e;
           of-kind = ap (λ (x : Slot). x .proposal .kind) e;
@@ -147,8 +153,10 @@ alone-agrees m n s busy h = agreed-in (proposed m n s) (record { busy = busy; ev
         }
 
 -- what is stored for another office stays
-stored-other : (m : Mode) (n : ℕ) (s : State) (o : ℕ) → o < 16 → (o ≡ s .own → ⊥) → storedAt (proposed m n s) o ≡ storedAt s o
-stored-other m n s o l d = proposed-reads s m n .stored-is o l ∙ upd-other (storedAt s) (s .own) (keeping (ownProposal m n s)) o d
+stored-other : (m : Mode) (n : ℕ) (s : State) (o : ℕ) → o < 16 → (o ≡ s .own → ⊥)
+    → storedAt (proposed m n s) o ≡ storedAt s o
+stored-other m n s o l d = proposed-reads s m n .stored-is o l
+    ∙ upd-other (storedAt s) (s .own) (keeping (ownProposal m n s)) o d
 
 -- a slow proposal made right after a fast one is above what any other office of the net view has proposed
 not-agreed : (s : State) (o : ℕ) → o < 16 → (o ≡ s .own → ⊥) → serves (s .net .bits) o ≡ true
@@ -166,15 +174,18 @@ not-agreed s o l d e = go (agreed w) refl
     go false q = q
     go true q =
         let a = agreed-out w q .every o l e in
-        let c : storedAt w o ≡ storedAt s o = stored-other Slow (slowNumber v) v o l d ∙ stored-other Fast (nextNumber s) s o l d in
+        let c : storedAt w o ≡ storedAt s o = stored-other Slow (slowNumber v) v o l d
+        ∙ stored-other Fast (nextNumber s) s o l d in
         let present : storedAt s o .present ≡ true = sym (ap (λ (x : Slot). x .present) c) ∙ a .is-there in
-        let number : storedAt s o .proposal .number ≡ slowNumber v = sym (ap (λ (x : Slot). x .proposal .number) c) ∙ a .own-number refl in
+        let number : storedAt s o .proposal .number ≡ slowNumber v = sym (ap (λ (x : Slot). x .proposal .number) c)
+        ∙ a .own-number refl in
         let same : numberIn (storedAt s o) ≡ storedAt s o .proposal .number = rw present in
         let below = next-above-stored s o l e in
         let above = slow-above v in
         absurd (omega arith)
 
-recipient-is-other : (p : Proposal) → hasRecipient p ≡ true → (o : ℕ) × (o < 16) × (serves (p .members .bits) o ≡ true) × (o ≡ p .sender → ⊥)
+recipient-is-other : (p : Proposal) → hasRecipient p ≡ true → (o : ℕ) × (o < 16)
+    × (serves (p .members .bits) o ≡ true) × (o ≡ p .sender → ⊥)
 unfolding receives
 recipient-is-other p e =
     let w = anyb-out 16 (receives p) e in
@@ -195,7 +206,8 @@ reportSizes =
 abbrev roundSize : Bool → Bool → Bool → ℕ
 roundSize r c a = noticeLength + ifb r proposalLength 0 + ifb c proposalLength 0 + ifb a viewLength 0
 
-report-table : (r c a : Bool) → (r ≡ true → c ≡ true → a ≡ false) → (r ≡ false → a ≡ true) → oneOf reportSizes (roundSize r c a) ≡ true
+report-table : (r c a : Bool) → (r ≡ true → c ≡ true → a ≡ false) → (r ≡ false → a ≡ true)
+    → oneOf reportSizes (roundSize r c a) ≡ true
 unfolding oneOf
 report-table true true true f g = absurd (true-false true refl (f refl refl))
 report-table true true false f g = refl
@@ -205,10 +217,13 @@ report-table false true true f g = refl
 report-table false false true f g = refl
 report-table false c false f g = absurd (true-false false (g refl) refl)
 
-fast-size : (s : State) → size (proposesFast s .written) ≡ ifb (hasRecipient (ownProposal Fast (nextNumber s) s)) proposalLength 0
+fast-size : (s : State)
+    → size (proposesFast s .written) ≡ ifb (hasRecipient (ownProposal Fast (nextNumber s) s)) proposalLength 0
 unfolding proposesFast
-fast-size s = if-cases (λ (ws : List Written). size ws ≡ ifb (hasRecipient (ownProposal Fast (nextNumber s) s)) proposalLength 0)
-    (hasRecipient (ownProposal Fast (nextNumber s) s)) _ _ (λ e. rw e (own-size Fast (nextNumber s) s)) (λ e. rw e none-size)
+fast-size s = if-cases
+    (λ (ws : List Written). size ws ≡ ifb (hasRecipient (ownProposal Fast (nextNumber s) s)) proposalLength 0)
+    (hasRecipient (ownProposal Fast (nextNumber s) s)) _ _ (λ e. rw e (own-size Fast (nextNumber s) s))
+    (λ e. rw e none-size)
 
 -- the round that a report begins in an office with a seat: its fast proposal, and the state then
 module _ (t : State) where
@@ -270,9 +285,15 @@ module _ (t : State) where
       let b : size (slowRound (o .state) .written) ≡ proposalLength = rw (f .state-is) slow-size in
       let c = f .size-is in
       let d : andThen o slowRound .state ≡ w = then-state o slowRound ∙ rw (f .state-is) slow-state in
-      record { slowly = true; size-is = omega arith; others = λ e z. rw d (slow-others e); nobody = λ e. rw d (slow-alone e) }
+      record {
+        slowly = true;
+        size-is = omega arith;
+        others = λ e z. rw d (slow-others e);
+        nobody = λ e. rw d (slow-alone e);
+      }
 
-  counted : (o : Outcome) (a : Bool) (n : ℕ) → Slowed o → agreed (o .state) ≡ a → n ≡ size (o .written) + ifb a viewLength 0
+  counted : (o : Outcome) (a : Bool) (n : ℕ) → Slowed o → agreed (o .state) ≡ a
+      → n ≡ size (o .written) + ifb a viewLength 0
       → oneOf reportSizes n ≡ true
   counted o a n h e z =
       let m = h .size-is in
@@ -298,7 +319,9 @@ change-sizes t = staged-change (report-tested t) t (λ e. rw none-size) (λ e. f
 
 pub report-sizes : (s : State) (r : Report) → oneOf reportSizes (size (reportRule s r .written)) ≡ true
 unfolding reportRule oneOf
-report-sizes s r = if-cases (λ (o : Outcome). oneOf reportSizes (size (o .written)) ≡ true) (repeats s r) _ _ (λ e. rw none-size) (λ e. change-sizes (withNet s _))
+report-sizes s r =
+    if-cases (λ (o : Outcome). oneOf reportSizes (size (o .written)) ≡ true) (repeats s r) _ _ (λ e. rw none-size)
+    (λ e. change-sizes (withNet s _))
 
 pub change-size : (t : State) → size (changeRule t .written) ≤ fullRoom
 unfolding greatest

@@ -150,7 +150,8 @@ facts-check s p h =
     let b = number (p .number) (h .number) in
     let c6 : wrongSender (s .own) p ≡ false = simp as-facts (h .sender, h .other) in
     let c7 : wrongKind p ≡ false = kinds (h .kind) in
-    let c8 : wrongNumber p ≡ false = simp as-facts ((((a .0, a .1), b .0), b .1), λ o l. let u = h .used o l in omega arith) in
+    let c8 : wrongNumber p ≡ false =
+    simp as-facts ((((a .0, a .1), b .0), b .1), λ o l. let u = h .used o l in omega arith) in
     let c9 : withoutSeat (s .own) p ≡ false = simp as-facts (h .seat, h .ownSeat) in
     let c10 : strayUsed p ≡ false = stray-in (p .used) (p .members .bits) (h .stray) in
     let c11 : notAbove s p ≡ false = lt-leb _ _ (h .above) in
@@ -186,7 +187,8 @@ pub act-cases : (s : State) (e : Event) → Refused s (actOf s e) ⊎ AcceptsEve
 unfolding actOf accepting
 act-cases s e = go (ℕ-discrete (refusalOf s e) 0) (wellFormed (ruleOf s e .state)) refl
   where
-    go : Dec (refusalOf s e ≡ 0) → (t : Bool) → wellFormed (ruleOf s e .state) ≡ t → Refused s (actOf s e) ⊎ AcceptsEvent s e
+    go : Dec (refusalOf s e ≡ 0) → (t : Bool) → wellFormed (ruleOf s e .state) ≡ t → Refused s (actOf s e)
+        ⊎ AcceptsEvent s e
     go (no n) t w = inl (rw (ne-eqb (refusalOf s e) 0 n) (record { reason = n; is = refl }))
     go (yes z) true w = inr (record { passes = z; within = w })
     go (yes z) false w = inl (rw (z, w) (record { reason = omega arith; is = refl }))
@@ -205,7 +207,8 @@ pub take-cases : (s : State) (e : Event) (room : ℕ) → Refused s (takeOf s e 
 unfolding takeOf
 take-cases s e room = go (wellFormed s) refl (ltb room fullRoom) refl (act-cases s e)
   where
-    go : (t : Bool) → wellFormed s ≡ t → (u : Bool) → ltb room fullRoom ≡ u → Refused s (actOf s e) ⊎ AcceptsEvent s e → Refused s (takeOf s e room) ⊎ Takes s e room
+    go : (t : Bool) → wellFormed s ≡ t → (u : Bool) → ltb room fullRoom ≡ u → Refused s (actOf s e) ⊎ AcceptsEvent s e
+        → Refused s (takeOf s e room) ⊎ Takes s e room
     go false p u q a = inl (rw p (record { reason = omega arith; is = refl }))
     go true p true q a = inl (rw (p, q) (record { reason = omega arith; is = refl }))
     go true p false q (inl r) = inl (rw (p, q) r)
@@ -231,7 +234,8 @@ readable-facts s b room = (
   λ h. rw (h .0, le-ltb room fullRoom (h .1), h .2),
 )
 
-pub step-accepts : (s : State) (b : List ℕ) (room : ℕ) → Accepts s b room → stepOf s b room ≡ accepted (ruleOf s (eventOf b))
+pub step-accepts : (s : State) (b : List ℕ) (room : ℕ) → Accepts s b room
+    → stepOf s b room ≡ accepted (ruleOf s (eventOf b))
 unfolding stepOf
 step-accepts s b room h =
     let r = readable-facts s b room .1 (h .well, h .fits, h .readable) in
@@ -241,7 +245,8 @@ pub step-cases : (s : State) (b : List ℕ) (room : ℕ) → Refused s (stepOf s
 unfolding stepOf
 step-cases s b room = go (ℕ-discrete (unreadable s b room) 0) (act-cases s (eventOf b))
   where
-    go : Dec (unreadable s b room ≡ 0) → Refused s (actOf s (eventOf b)) ⊎ AcceptsEvent s (eventOf b) → Refused s (stepOf s b room) ⊎ Accepts s b room
+    go : Dec (unreadable s b room ≡ 0) → Refused s (actOf s (eventOf b)) ⊎ AcceptsEvent s (eventOf b)
+        → Refused s (stepOf s b room) ⊎ Accepts s b room
     go (no n) a = inl (rw (ne-eqb (unreadable s b room) 0 n) (record { reason = n; is = refl }))
     go (yes z) (inl r) = inl (rw z r)
     go (yes z) (inr a) =
@@ -253,16 +258,19 @@ pub step-takes : (s : State) (b : List ℕ) (room : ℕ) → checkOf b ≡ 0 →
 unfolding stepOf unreadable takeOf
 step-takes s b room e = go (wellFormed s) refl (ltb room fullRoom) refl
   where
-    go : (t : Bool) → wellFormed s ≡ t → (u : Bool) → ltb room fullRoom ≡ u → stepOf s b room ≡ takeOf s (eventOf b) room
+    go : (t : Bool) → wellFormed s ≡ t → (u : Bool) → ltb room fullRoom ≡ u
+        → stepOf s b room ≡ takeOf s (eventOf b) room
     go true p true q = rw (p, q)
     go true p false q = rw (p, q, e)
     go false p u q = rw p
 
 -- other bytes leave the state and have nothing written
-pub step-skips : (s : State) (b : List ℕ) (room : ℕ) → (checkOf b ≡ 0 → ⊥) → (stepOf s b room .state ≡ s) × (stepOf s b room .written ≡ [])
+pub step-skips : (s : State) (b : List ℕ) (room : ℕ) → (checkOf b ≡ 0 → ⊥) → (stepOf s b room .state ≡ s)
+    × (stepOf s b room .written ≡ [])
 step-skips s b room n = go (step-cases s b room)
   where
-    go : Refused s (stepOf s b room) ⊎ Accepts s b room → (stepOf s b room .state ≡ s) × (stepOf s b room .written ≡ [])
+    go : Refused s (stepOf s b room) ⊎ Accepts s b room → (stepOf s b room .state ≡ s)
+        × (stepOf s b room .written ≡ [])
     go (inl r) = (ap (λ (q : Result). q .state) (r .is), ap (λ (q : Result). q .written) (r .is))
     go (inr a) = absurd (n (a .readable))
 

@@ -7,11 +7,13 @@ use native.Mathlib.Omega.{arith}
 use lib.Dec.{eqb}
 use borrow.Author.Tests.{eqb-true, eq-eqb, ne-eqb, ltb-true, lt-ltb, not-true}
 use Rattle.laws.specs.Fin.{anyb, largest}
-use Rattle.laws.proofs.Fin.{as-facts, and-l, and-r, and-in, or-l, or-r, or-cases, true-false, allb-out, allb-in, anyb-out, anyb-none, largest-max, largest-le, if-cases}
+use Rattle.laws.proofs.Fin.{as-facts, and-l, and-r, and-in, or-l, or-r, or-cases, true-false, allb-out, allb-in}
+use Rattle.laws.proofs.Fin.{anyb-out, anyb-none, largest-max, largest-le, if-cases}
 use Rattle.laws.specs.Upd.{ifb}
 use Rattle.seats.specs.Offices.{serves}
 use Rattle.rules.specs.State.{Mode, None, Fast, Slow, State, slow, kindOf, storedAt, usedFor}
-use Rattle.rules.specs.Rules.{inSlot, matching, matchingSlow, aboveOwn, usesOwn, calledIn, slowCalled, joinedNumber, nextNumber, slowNumber, agreesKind, agreesIn, isNone, agreed}
+use Rattle.rules.specs.Rules.{inSlot, matching, matchingSlow, aboveOwn, usesOwn, calledIn, slowCalled, joinedNumber}
+use Rattle.rules.specs.Rules.{nextNumber, slowNumber, agreesKind, agreesIn, isNone, agreed}
 use Rattle.rule_laws.proofs.Modes.{busy-is, is-busy}
 
 module _ (s : State) where
@@ -72,12 +74,14 @@ module _ (s : State) where
     above-own : s .mode ≡ Slow → (o : ℕ) → o < 16 → Above o → Cause
 
   used-cause : anyb 16 (usesOwn s) ≡ true → Cause
-  used-cause e = let w = anyb-out 16 (usesOwn s) e in let h = uses-out (w .0) (w .2) in is-used (w .0) (w .1) (h .0) (h .1)
+  used-cause e = let w = anyb-out 16 (usesOwn s) e in let h = uses-out (w .0) (w .2) in
+      is-used (w .0) (w .1) (h .0) (h .1)
 
   cause-in : (m : Mode) → s .mode ≡ m → calledIn m s ≡ true → Cause
   cause-in None e c = in-none e
   cause-in Fast e c =
-      ⊎-elim (λ a. let w = anyb-out 16 (matchingSlow s) a in let h = slow-out (w .0) (w .2) in heard-slow e (w .0) (w .1) (h .0) (h .1))
+      ⊎-elim (λ a. let w = anyb-out 16 (matchingSlow s) a in let h = slow-out (w .0) (w .2) in
+      heard-slow e (w .0) (w .1) (h .0) (h .1))
       used-cause (or-cases (anyb 16 (matchingSlow s)) (anyb 16 (usesOwn s)) c)
   cause-in Slow e c =
       ⊎-elim (λ a. let w = anyb-out 16 (aboveOwn s) a in above-own e (w .0) (w .1) (above-out (w .0) (w .2)))
@@ -94,14 +98,16 @@ module _ (s : State) where
     pub not-used : (o : ℕ) → o < 16 → Matching o → usedFor (inSlot s o) (s .own) ≡ s .number → ⊥
     pub not-above : s .mode ≡ Slow → (o : ℕ) → o < 16 → Above o → ⊥
 
-  not-used-by : anyb 16 (usesOwn s) ≡ false → (o : ℕ) → o < 16 → Matching o → usedFor (inSlot s o) (s .own) ≡ s .number → ⊥
+  not-used-by : anyb 16 (usesOwn s) ≡ false → (o : ℕ) → o < 16 → Matching o
+      → usedFor (inSlot s o) (s .own) ≡ s .number → ⊥
   not-used-by c o lt h e = true-false _ (uses-in o h e) (anyb-none 16 (usesOwn s) c o lt)
 
   not-in : (m : Mode) → s .mode ≡ m → calledIn m s ≡ false → NotCalled
   not-in None e c = let z : _≡_ {A = ℕ} 0 1 = cc in absurd (omega arith)
   not-in Fast e c = record {
     busy = λ n. let z : _≡_ {A = ℕ} 0 1 = cc in omega arith;
-    no-slow = λ f o lt h k. true-false _ (slow-in o h k) (anyb-none 16 (matchingSlow s) (or-l _ (anyb 16 (usesOwn s)) c) o lt);
+    no-slow = λ f o lt h k. true-false _ (slow-in
+        o h k) (anyb-none 16 (matchingSlow s) (or-l _ (anyb 16 (usesOwn s)) c) o lt);
     not-used = not-used-by (or-r (anyb 16 (matchingSlow s)) _ c);
     not-above = λ f o lt h. let z : _≡_ {A = ℕ} 0 1 = cc in omega arith;
   }
@@ -109,7 +115,8 @@ module _ (s : State) where
     busy = λ n. let z : _≡_ {A = ℕ} 0 1 = cc in omega arith;
     no-slow = λ f o lt h k. let z : _≡_ {A = ℕ} 0 1 = cc in omega arith;
     not-used = not-used-by (or-r (anyb 16 (aboveOwn s)) _ c);
-    not-above = λ f o lt h. true-false _ (above-in o h) (anyb-none 16 (aboveOwn s) (or-l _ (anyb 16 (usesOwn s)) c) o lt);
+    not-above = λ f o lt h. true-false _ (above-in
+        o h) (anyb-none 16 (aboveOwn s) (or-l _ (anyb 16 (usesOwn s)) c) o lt);
   }
 
   pub not-called : slowCalled s ≡ false → NotCalled
@@ -118,7 +125,8 @@ module _ (s : State) where
 
   -- where the number of a slow proposal comes from: the largest that can be joined, or a new one where there is none
   pub data NumberFrom (n : ℕ) : Type 0 where
-    joins : (o : ℕ) → o < 16 → Above o → n ≡ inSlot s o .number → ((q : ℕ) → q < 16 → Above q → inSlot s q .number ≤ n) → NumberFrom n
+    joins : (o : ℕ) → o < 16 → Above o → n ≡ inSlot s o .number
+        → ((q : ℕ) → q < 16 → Above q → inSlot s q .number ≤ n) → NumberFrom n
     starts : ((q : ℕ) → q < 16 → Above q → ⊥) → n ≡ nextNumber s → NumberFrom n
 
   joinable : ℕ → ℕ
@@ -185,7 +193,8 @@ module _ (s : State) where
     pub own-number : s .mode ≡ Slow → inSlot s o .number ≡ s .number
 
   kind-out : (o : ℕ) → agreesKind s o ≡ true
-      → (storedAt s o .present ≡ true) × (inSlot s o .kind ≡ kindOf (s .mode)) × (inSlot s o .members .bits ≡ s .net .bits)
+      → (storedAt s o .present ≡ true) × (inSlot s o .kind ≡ kindOf (s .mode))
+      × (inSlot s o .members .bits ≡ s .net .bits)
   unfolding agreesKind
   kind-out o e =
       let k : Bool = storedAt s o .present && eqb (inSlot s o .kind) (kindOf (s .mode)) in
@@ -200,10 +209,21 @@ module _ (s : State) where
   agreeing-out None o e c = let z : _≡_ {A = ℕ} 0 1 = cc in absurd (omega arith)
   agreeing-out Fast o e c =
       let k = kind-out o c in
-      record { is-there = k .0; of-kind = k .1; same-members = k .2; own-number = λ f. let z : _≡_ {A = ℕ} 0 1 = cc in absurd (omega arith) }
+      record {
+        is-there = k .0;
+        of-kind = k .1;
+        same-members = k .2;
+        own-number = λ f. let z : _≡_ {A = ℕ} 0 1 = cc in
+            absurd (omega arith);
+      }
   agreeing-out Slow o e c =
       let k = kind-out o (and-l (agreesKind s o) _ c) in
-      record { is-there = k .0; of-kind = k .1; same-members = k .2; own-number = λ f. eqb-true _ _ (and-r (agreesKind s o) _ c) }
+      record {
+        is-there = k .0;
+        of-kind = k .1;
+        same-members = k .2;
+        own-number = λ f. eqb-true _ _ (and-r (agreesKind s o) _ c);
+      }
 
   pub agreeing-in : (m : Mode) (o : ℕ) → s .mode ≡ m → (m ≡ None → ⊥) → Agreeing o → agreesIn m s o ≡ true
   agreeing-in None o e n h = absurd (n refl)
@@ -234,4 +254,5 @@ module _ (s : State) where
   pub agreed-in : AllAgree → agreed s ≡ true
   unfolding agreed
   agreed-in h = and-in _ _ (ap not (is-busy (s .mode) (h .busy)))
-      (allb-in 16 _ (λ o lt. answer (serves (s .net .bits) o) _ (λ v. agreeing-in (s .mode) o refl (h .busy) (h .every o lt v))))
+      (allb-in 16 _ (λ o lt. answer (serves (s .net .bits) o) _ (λ v. agreeing-in
+      (s .mode) o refl (h .busy) (h .every o lt v))))

@@ -10,8 +10,10 @@ use Rattle.laws.proofs.Fin.{if-cases}
 use Rattle.records.specs.declared.Report.{Report}
 use Rattle.records.specs.declared.Proposal.{Proposal}
 use Rattle.rules.specs.State.{Mode, None, Fast, Slow, State}
-use Rattle.rules.specs.Rules.{Written, view, Outcome, nothingWritten, andThen, netAfter, withNet, repeats, seated, opened, opens, proposesFast, received}
-use Rattle.rules.specs.Rules.{slowCalled, beginsIn, proposesSlow, slowTest, agreed, viewOf, concluded, agreementTest, tests, changeRule, reportRule}
+use Rattle.rules.specs.Rules.{Written, view, Outcome, nothingWritten, andThen, netAfter, withNet, repeats, seated}
+use Rattle.rules.specs.Rules.{opened, opens, proposesFast, received}
+use Rattle.rules.specs.Rules.{slowCalled, beginsIn, proposesSlow, slowTest, agreed, viewOf, concluded, agreementTest}
+use Rattle.rules.specs.Rules.{tests, changeRule, reportRule}
 use Rattle.rules.specs.Rules.{proposalRule}
 use Rattle.rules.specs.Refusals.{Event, aReport, aProposal, ruleOf}
 use Rattle.rule_laws.proofs.Parts.{received-reads}
@@ -29,8 +31,8 @@ slowRound s = andThen (beginsIn (s .mode) s) proposesSlow
 abbrev pub concludes : State → Outcome
 concludes s = record { state = concluded s; written = view (viewOf s) ∷ [] }
 
--- An event in three stages, each with what holds of the outcome so far when it is over: A after the fast proposal of a report (of a proposal
--- at once), B after the slow test, P after the agreement test. Here the two tests.
+-- An event in three stages, each with what holds of the outcome so far when it is over: A after the fast proposal of
+-- a report (of a proposal at once), B after the slow test, P after the agreement test. Here the two tests.
 pub record Tested (A B P : Outcome → Type 0) : Type 0 where
   pub called : (o : Outcome) → A o → slowCalled (o .state) ≡ true → B (andThen o slowRound)
   pub uncalled : (o : Outcome) → A o → slowCalled (o .state) ≡ false → B o
@@ -72,7 +74,8 @@ module _ {A B P : Outcome → Type 0} (w : Tested A B P) where
   tested-now s a = tested (nothingWritten s) a
 
   -- the net view has changed: no seat, or the fast proposal and then the tests
-  pub staged-change : (s : State) → (seated s ≡ false → P (nothingWritten s)) → (seated s ≡ true → A (andThen (opens s) proposesFast)) → P (changeRule s)
+  pub staged-change : (s : State) → (seated s ≡ false → P (nothingWritten s))
+      → (seated s ≡ true → A (andThen (opens s) proposesFast)) → P (changeRule s)
   unfolding changeRule
   staged-change s ends round =
       if-cases P (seated s) _ _
@@ -85,7 +88,8 @@ module _ {A B P : Outcome → Type 0} (w : Tested A B P) where
       → (seated (arrived s (aReport r)) ≡ true → A (andThen (opens (arrived s (aReport r))) proposesFast))
       → P (reportRule s r)
   unfolding reportRule
-  staged-report s r again ends round = if-cases P (repeats s r) _ _ again (λ c. staged-change (arrived s (aReport r)) ends round)
+  staged-report s r again ends round =
+      if-cases P (repeats s r) _ _ again (λ c. staged-change (arrived s (aReport r)) ends round)
 
   -- a proposal: other members than the net view, or the tests
   pub staged-proposal : (s : State) (p : Proposal)
@@ -98,7 +102,8 @@ module _ {A B P : Outcome → Type 0} (w : Tested A B P) where
       (λ e. tested-now (received s p) (now (eqb-true (p .members .bits) (s .net .bits) e)))
       (λ e. ends (eqb-false (p .members .bits) (s .net .bits) e))
 
--- What needs no memory of the stages: a predicate of the state before a part and the part's outcome, kept by parts one after another.
+-- What needs no memory of the stages: a predicate of the state before a part and the part's outcome, kept by parts
+-- one after another.
 
 -- why nothing is done in a state
 pub data Idle (s : State) : Type 0 where
@@ -134,13 +139,15 @@ pub record Walk (Q P : State → Outcome → Type 0) : Type 0 where
   pub concluding : (s : State) → agreed s ≡ true → P s (concludes s)
   pub chain : (s : State) (o : Outcome) (f : State → Outcome) → Q s o → Q (o .state) (f (o .state)) → Q s (andThen o f)
   pub whole : (s : State) (o : Outcome) → Q s o → P s o
-  pub finish : (s : State) (o : Outcome) (f : State → Outcome) → Q s o → P (o .state) (f (o .state)) → P s (andThen o f)
+  pub finish : (s : State) (o : Outcome) (f : State → Outcome) → Q s o → P (o .state) (f (o .state))
+      → P s (andThen o f)
 
 module _ {Q P : State → Outcome → Type 0} (w : Walk Q P) where
   -- the slow proposal, in the state that the beginning leaves
   walk-called : (m : Mode) (s : State) → s .mode ≡ m → slowCalled s ≡ true → Q s (andThen (beginsIn m s) proposesSlow)
   unfolding opens
-  walk-called None s e c = w .chain s (opens s) proposesSlow (w .opening s (on-call e c)) (w .slowly (opened s) (after-opening s e c refl))
+  walk-called None s e c =
+      w .chain s (opens s) proposesSlow (w .opening s (on-call e c)) (w .slowly (opened s) (after-opening s e c refl))
   walk-called Fast s e c =
       let busy : s .mode ≡ None → ⊥ = λ n. let z : _≡_ {A = ℕ} 0 1 = cc in omega arith in
       w .chain s (nothingWritten s) proposesSlow (w .idle s (underway busy)) (w .slowly s (in-round busy c))
@@ -151,7 +158,8 @@ module _ {Q P : State → Outcome → Type 0} (w : Walk Q P) where
   walk-reported : (s : State) → seated s ≡ true → Q s (andThen (opens s) proposesFast)
   unfolding opens
   walk-reported s e =
-      w .chain s (opens s) proposesFast (w .opening s (on-report e)) (w .fastly (opened s) (record { before = s; seat = e; is = refl }))
+      w .chain s (opens s) proposesFast (w .opening s (on-report e))
+      (w .fastly (opened s) (record { before = s; seat = e; is = refl }))
 
   -- one idle part more
   rest : (s : State) (o : Outcome) → Q s o → Idle (o .state) → Q s o
@@ -178,7 +186,8 @@ module _ {Q P : State → Outcome → Type 0} (w : Walk Q P) where
   pub walk-proposal : (s : State) (p : Proposal) → P (received s p) (proposalRule s p)
   walk-proposal s p =
       let t = received s p in
-      staged-proposal (walking t) s p (λ e. ending t (other-members p (rw (received-reads s p .net-is) e))) (λ e. w .idle t at-first)
+      staged-proposal (walking t) s p (λ e. ending t (other-members p (rw (received-reads s p .net-is) e)))
+      (λ e. w .idle t at-first)
 
   pub walk-event : (s : State) (e : Event) → P (arrived s e) (ruleOf s e)
   walk-event s (aReport r) = walk-report s r

@@ -1,4 +1,5 @@
--- What holds of every record that an event writes: no number in it passes L, and an office without a seat in the members has no number.
+-- What holds of every record that an event writes: no number in it passes L, and an office without a seat in the
+-- members has no number.
 use mathlib.Core.Path.{_≡_, _∙_}
 use mathlib.Core.Bool.{true, false}
 use mathlib.Core.Logic.{_⊎_, inl, inr}
@@ -15,7 +16,8 @@ use Rattle.records.specs.declared.Notice.{Notice}
 use Rattle.records.specs.declared.Proposal.{Proposal}
 use Rattle.records.specs.declared.View.{View}
 use Rattle.rules.specs.State.{Mode, None, Fast, Slow, State, keeping, usedFor}
-use Rattle.rules.specs.Rules.{Written, notice, proposal, view, Outcome, andThen, opened, noticeOf, opens, nextNumber, ownProposal}
+use Rattle.rules.specs.Rules.{Written, notice, proposal, view, Outcome, andThen, opened, noticeOf, opens, nextNumber}
+use Rattle.rules.specs.Rules.{ownProposal}
 use Rattle.rules.specs.Rules.{proposed, hasRecipient, proposesFast, slowNumber, proposesSlow, agreed, startOf, viewOf, concluded}
 use Rattle.records.specs.Numbers.{limit}
 use Rattle.rules.specs.Refusals.{Event, eventOf, ruleOf, stepOf}
@@ -25,9 +27,11 @@ use Rattle.rule_laws.proofs.Walk.{concludes, Walk, walk-event}
 use Rattle.rule_laws.proofs.Ceiling.{Copied, MadeWithin, Copies, copying, copies-then, made-within, view-starts, arrived-copied, well-copied, accepted-fits}
 
 -- the fast proposal, written or not
-pub fast-every : (R : Written → Type 0) (s : State) → R (proposal (ownProposal Fast (nextNumber s) s)) → Every R (proposesFast s .written)
+pub fast-every : (R : Written → Type 0) (s : State) → R (proposal (ownProposal Fast (nextNumber s) s))
+    → Every R (proposesFast s .written)
 unfolding proposesFast
-fast-every R s r = if-cases (Every R) (hasRecipient (ownProposal Fast (nextNumber s) s)) _ _ (λ e. more r none) (λ e. none)
+fast-every R s r =
+    if-cases (Every R) (hasRecipient (ownProposal Fast (nextNumber s) s)) _ _ (λ e. more r none) (λ e. none)
 
 -- the records that there are: R of each of them is R of all that is written
 pub record EachMade (R : Written → Type 0) : Type 0 where
@@ -35,7 +39,8 @@ pub record EachMade (R : Written → Type 0) : Type 0 where
   pub proposals : (s : State) (m : Mode) (n : ℕ) → (m ≡ None → ⊥) → s .number < n → R (proposal (ownProposal m n s))
   pub views : (s : State) → agreed s ≡ true → R (view (viewOf s))
 
-every-then : {R : Written → Type 0} (s : State) (o : Outcome) (f : State → Outcome) → Every R (o .written) → Every R (f (o .state) .written)
+every-then : {R : Written → Type 0} (s : State) (o : Outcome) (f : State → Outcome) → Every R (o .written)
+    → Every R (f (o .state) .written)
     → Every R (andThen o f .written)
 unfolding andThen
 every-then s o f a b = every-append a b
@@ -55,8 +60,10 @@ module _ {R : Written → Type 0} (each : EachMade R) where
   writing = record {
     idle = λ s i. none;
     opening = λ s i. more (each .notices s) none;
-    fastly = λ s i. fast-every R s (each .proposals s Fast (nextNumber s) (λ e. let z : _≡_ {A = ℕ} 0 1 = cc in omega arith) (next-above s));
-    slowly = λ s i. more (each .proposals s Slow (slowNumber s) (λ e. let z : _≡_ {A = ℕ} 0 1 = cc in omega arith) (slow-above s)) none;
+    fastly = λ s i. fast-every R s
+        (each .proposals s Fast (nextNumber s) (λ e. let z : _≡_ {A = ℕ} 0 1 = cc in omega arith) (next-above s));
+    slowly = λ s i. more
+        (each .proposals s Slow (slowNumber s) (λ e. let z : _≡_ {A = ℕ} 0 1 = cc in omega arith) (slow-above s)) none;
     concluding = λ s e. more (each .views s e) none;
     chain = every-then;
     whole = λ s o h. h;
@@ -87,7 +94,8 @@ last-append (notice n ∷ a) (more r e) h = a-notice (last-append a e h)
 last-append (proposal p ∷ a) (more r e) h = a-proposal (last-append a e h)
 last-append (view v ∷ a) (more r e) h = absurd r
 
-last-then : (s : State) (o : Outcome) (f : State → Outcome) → Every NoView (o .written) → ViewLast (f (o .state) .written)
+last-then : (s : State) (o : Outcome) (f : State → Outcome) → Every NoView (o .written)
+    → ViewLast (f (o .state) .written)
     → ViewLast (andThen o f .written)
 unfolding andThen
 last-then s o f a b = last-append (o .written) a b
@@ -140,22 +148,26 @@ record WritesAll (s : State) (o : Outcome) : Type 0 where
   copies : Copies s o
   within : Copied s → MadeWithin (o .state) → Every RecordWithin (o .written)
 
-then-within : (s : State) (o : Outcome) (f : State → Outcome) → Writes s o → Copies (o .state) (f (o .state)) → Copied s
+then-within : (s : State) (o : Outcome) (f : State → Outcome) → Writes s o → Copies (o .state) (f (o .state))
+    → Copied s
     → f (o .state) .state .start ≤ limit → f (o .state) .state .number ≤ limit
-    → (Copied (o .state) → Every RecordWithin (f (o .state) .written)) → Every RecordWithin (o .written ++ f (o .state) .written)
+    → (Copied (o .state) → Every RecordWithin (f (o .state) .written))
+    → Every RecordWithin (o .written ++ f (o .state) .written)
 then-within s o f a b c x y rest =
     let m = b .start in
     let n = b .number in
     every-append (a .within c (omega arith) (omega arith)) (rest (a .copies .copied c (omega arith) (omega arith)))
 
-writes-then : (s : State) (o : Outcome) (f : State → Outcome) → Writes s o → Writes (o .state) (f (o .state)) → Writes s (andThen o f)
+writes-then : (s : State) (o : Outcome) (f : State → Outcome) → Writes s o → Writes (o .state) (f (o .state))
+    → Writes s (andThen o f)
 unfolding andThen
 writes-then s o f a b = record {
   copies = copies-then s o f (a .copies) (b .copies);
   within = λ c x y. then-within s o f a (b .copies) c x y (λ d. b .within d x y);
 }
 
-writes-last : (s : State) (o : Outcome) (f : State → Outcome) → Writes s o → WritesAll (o .state) (f (o .state)) → WritesAll s (andThen o f)
+writes-last : (s : State) (o : Outcome) (f : State → Outcome) → Writes s o → WritesAll (o .state) (f (o .state))
+    → WritesAll s (andThen o f)
 unfolding andThen
 writes-last s o f a b = record {
   copies = copies-then s o f (a .copies) (b .copies);
@@ -168,7 +180,8 @@ writes-open s c = record { copies = c; within = λ d x y. more x none }
 
 writes-fast : (s : State) → Copies s (proposesFast s) → Writes s (proposesFast s)
 unfolding proposesFast proposed
-writes-fast s c = record { copies = c; within = λ d x y. fast-every RecordWithin s (made-within s Fast (nextNumber s) d x y) }
+writes-fast s c =
+    record { copies = c; within = λ d x y. fast-every RecordWithin s (made-within s Fast (nextNumber s) d x y) }
 
 writes-slow : (s : State) → Copies s (proposesSlow s) → Writes s (proposesSlow s)
 unfolding proposesSlow proposed
@@ -176,7 +189,8 @@ writes-slow s c = record { copies = c; within = λ d x y. more (made-within s Sl
 
 writes-view : (s : State) → agreed s ≡ true → Copies s (concludes s) → WritesAll s (concludes s)
 unfolding concluded
-writes-view s e c = record { copies = c; within = λ d m. more {a = view (viewOf s)} (m .view, view-starts s (agreed-out s e) d) none }
+writes-view s e c =
+    record { copies = c; within = λ d m. more {a = view (viewOf s)} (m .view, view-starts s (agreed-out s e) d) none }
 
 writing-within : Walk Writes WritesAll
 writing-within = record {

@@ -1,5 +1,5 @@
--- The worked days at office 0 that document 01 marks with *, N as change request 2 has it, and a day at the ceiling: what comes of each by the
--- rules, and what the documents say.
+-- The worked days at office 0 that document 01 marks with *, N as change request 2 has it, and a day at the ceiling:
+-- what comes of each by the rules, and what the documents say.
 use mathlib.Core.List.{List, [], _∷_, _++_}
 use Prim.Native.Nat.{ℕ, _+_, _-_}
 use lib.ListN.{length}
@@ -10,7 +10,8 @@ use Rattle.laws.specs.Big.{bytesAll}
 use Rattle.laws.specs.Bit.{bit}
 use Rattle.seats.specs.Seats.{has, unionOf, withoutOf}
 use Rattle.seats.specs.Offices.{serves}
-use Rattle.records.specs.Layout.{encodeReport, decodeReport, encodeProposal, decodeProposal, encodeNotice, encodeView, markOf, formFor, formOf}
+use Rattle.records.specs.Layout.{encodeReport, decodeReport, encodeProposal, decodeProposal, encodeNotice, encodeView}
+use Rattle.records.specs.Layout.{markOf, formFor, formOf}
 use Rattle.records.specs.Layout.{checkFor, checkOf}
 use Rattle.rules.specs.State.{None, Fast, State, fast, slow}
 use Rattle.rules.specs.Rules.{Written, notice, proposal, view, andThen, fresh, netAfter, withNet, repeats, seated, opened, noticeOf, opens, nextNumber}
@@ -18,8 +19,10 @@ use Rattle.rules.specs.Rules.{ownProposal, proposed, receives, proposesF
 use Rattle.rules.specs.Rules.{joinedNumber, slowNumber, proposesSlow, slowTest, agreesKind, isNone, agreed, startOf, viewOf, concluded}
 use Rattle.rules.specs.Rules.{agreementTest, tests, changeRule, reportRule, proposalRule}
 use Rattle.records.specs.Numbers.{limit}
-use Rattle.rules.specs.Refusals.{Result, slotWithin, wellFormed, unreadable, eventOf, wrongSender, wrongKind, wrongNumber, withoutSeat}
-use Rattle.rules.specs.Refusals.{strayUsed, notAbove, usedAhead, proposalChecks, accepting, actOf, takeOf, stepOf, allBytes}
+use Rattle.rules.specs.Refusals.{Result, slotWithin, wellFormed, unreadable, eventOf, wrongSender, wrongKind}
+use Rattle.rules.specs.Refusals.{wrongNumber, withoutSeat}
+use Rattle.rules.specs.Refusals.{strayUsed, notAbove, usedAhead, proposalChecks, accepting, actOf, takeOf}
+use Rattle.rules.specs.Refusals.{stepOf, allBytes}
 
 -- what is seen of a day: the refusal or 0, the bytes written, the records they are, the current view number
 pub record Day : Type 0 where
@@ -30,7 +33,12 @@ pub record Day : Type 0 where
 
 abbrev seen : Result → Day
 seen r =
-    record { refusal = r .refusal; bytes = length (allBytes (r .written)); written = r .written; view = r .state .view .number }
+    record {
+      refusal = r .refusal;
+      bytes = length (allBytes (r .written));
+      written = r .written;
+      view = r .state .view .number;
+    }
 
 -- the seats 0, 4 and 8 as sets
 abbrev seat0 : ℕ
@@ -55,12 +63,14 @@ unfolding upd allb anyb largest tab bytesAll bit has unionOf withoutOf serves en
     encodeNotice encodeView markOf formFor formOf checkFor checkOf andThen fresh netAfter withNet repeats seated opened noticeOf opens nextNumber
     ownProposal proposed receives proposesFast received matching matchingSlow aboveOwn usesOwn slowCalled joinedNumber slowNumber proposesSlow
     slowTest agreesKind isNone agreed startOf viewOf concluded agreementTest tests changeRule reportRule proposalRule slotWithin wellFormed unreadable
-    eventOf wrongSender wrongKind wrongNumber withoutSeat strayUsed notAbove usedAhead proposalChecks accepting actOf takeOf stepOf allBytes
+    eventOf wrongSender wrongKind wrongNumber withoutSeat strayUsed notAbove usedAhead proposalChecks accepting actOf
+    takeOf stepOf allBytes
 given s b = stepOf s b 182
 
 -- what is handed in: a report of joining and of leaving seats, one of joining seats only, and P of document 01
 abbrev pub reported : State → ℕ → ℕ → Result
-reported s joining leaving = given s (encodeReport (record { joining = record { bits = joining }; leaving = record { bits = leaving } }))
+reported s joining leaving =
+    given s (encodeReport (record { joining = record { bits = joining }; leaving = record { bits = leaving } }))
 
 abbrev report : State → ℕ → Result
 report s joining = reported s joining 0
@@ -69,7 +79,14 @@ abbrev P : State → ℕ → ℕ → ℕ → ℕ → ℕ → Result
 P s kind start number used0 used1 =
     given s
     (encodeProposal
-    (record { sender = 1; kind = kind; members = record { bits = both }; start = start; number = number; used = two used0 used1 }))
+    (record {
+      sender = 1;
+      kind = kind;
+      members = record { bits = both };
+      start = start;
+      number = number;
+      used = two used0 used1;
+    }))
 
 -- the days by the rules
 abbrev before : State
@@ -133,7 +150,14 @@ aNotice start members = notice (record { start = start; members = record { bits 
 abbrev own : ℕ → ℕ → ℕ → ℕ → ℕ → Written
 own kind start number used0 used1 =
     proposal
-    (record { sender = 0; kind = kind; members = record { bits = both }; start = start; number = number; used = two used0 used1 })
+    (record {
+      sender = 0;
+      kind = kind;
+      members = record { bits = both };
+      start = start;
+      number = number;
+      used = two used0 used1;
+    })
 
 abbrev aFast : ℕ → ℕ → ℕ → ℕ → Written
 aFast = own 1
@@ -142,7 +166,8 @@ abbrev aSlow : ℕ → ℕ → ℕ → ℕ → Written
 aSlow = own 2
 
 abbrev aView : ℕ → ℕ → ℕ → ℕ → Written
-aView number members start0 start1 = view (record { number = number; members = record { bits = members }; starts = two start0 start1 })
+aView number members start0 start1 =
+    view (record { number = number; members = record { bits = members }; starts = two start0 start1 })
 
 abbrev accepts : ℕ → List Written → ℕ → Day
 accepts bytes written current = record { refusal = 0; bytes = bytes; written = written; view = current }
@@ -181,16 +206,18 @@ stated =
     ∷ refuses 8 0
     -- N: an empty report; 0 bytes
     ∷ accepts 0 [] 2
-    -- at the ceiling: number L - 2 is accepted; then fast number L - 1, slow number L; an empty report does nothing; one that joins {8} gets 13
+    -- at the ceiling: number L - 2 is accepted; then fast number L - 1, slow number L; an empty report does nothing;
+    -- one that joins {8} gets 13
     ∷ accepts 0 [] 0
     ∷ accepts 182 (aNotice 1 both ∷ aFast 1 (limit - 1) 0 0 ∷ aSlow 1 limit 0 0 ∷ []) 0
     ∷ accepts 0 [] 0
     ∷ refuses 13 0
     ∷ []
 
--- Further days, where document 01 decides against the paper's figure 7: the slow test looks at what is stored, and goes by its own cases.
--- Besides, what no starred day shows: an office outside the net view has no start number in a view, and the own proposal is no matching one,
--- even where it claims to have used itself, as in this state that no run reaches.
+-- Further days, where document 01 decides against the paper's figure 7: the slow test looks at what is stored, and
+-- goes by its own cases. Besides, what no starred day shows: an office outside the net view has no start number in a
+-- view, and the own proposal is no matching one, even where it claims to have used itself, as in this state that no
+-- run reaches.
 unfoldable pub selfUsed : State
 selfUsed =
     proposed Fast 1
@@ -260,7 +287,14 @@ abbrev from : ℕ → ℕ → ℕ → ℕ → ℕ → List ℕ → Result
 from sender kind members start number used =
     given before
     (encodeProposal
-    (record { sender = sender; kind = kind; members = record { bits = members }; start = start; number = number; used = used }))
+    (record {
+      sender = sender;
+      kind = kind;
+      members = record { bits = members };
+      start = start;
+      number = number;
+      used = used;
+    }))
 
 abbrev joined : List ℕ
 joined = encodeReport (record { joining = record { bits = seat0 }; leaving = record { bits = 0 } })

@@ -88,7 +88,8 @@ usedAhead s p = ltb (s .number) (usedFor p (s .own))
 
 unfoldable pub proposalChecks : State → Proposal → List Check
 proposalChecks s p =
-    formChecks (s .own) p ++ (record { number = 11; applies = notAbove s p } ∷ record { number = 12; applies = usedAhead s p } ∷ [])
+    formChecks (s .own) p
+    ++ (record { number = 11; applies = notAbove s p } ∷ record { number = 12; applies = usedAhead s p } ∷ [])
 
 abbrev pub refusalOf : State → Event → ℕ
 refusalOf s (aReport r) = 0

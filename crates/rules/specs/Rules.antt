@@ -12,7 +12,9 @@ use Rattle.records.specs.declared.Report.{Report}
 use Rattle.records.specs.declared.Proposal.{Proposal}
 use Rattle.records.specs.declared.Notice.{Notice}
 use Rattle.records.specs.declared.View.{View}
-use Rattle.rules.specs.State.{Mode, None, Fast, Slow, State, slow, kindOf, zeros, nothing, keeping, storedAt, acceptedAt, usedAt, usedFor, numberIn, withMode, withNetSet, withStored, withAccepted, withStart, withNumber}
+use Rattle.rules.specs.State.{Mode, None, Fast, Slow, State, slow, kindOf, zeros, nothing, keeping, storedAt}
+use Rattle.rules.specs.State.{acceptedAt, usedAt, usedFor, numberIn, withMode, withNetSet, withStored}
+use Rattle.rules.specs.State.{withAccepted, withStart, withNumber}
 
 -- a record written: to this office's seats, to the other offices, to this office's seats
 pub data Written : Type 0 where
@@ -62,7 +64,8 @@ repeats s r = eqb (netAfter (s .net .bits) r) (s .net .bits)
 unfoldable pub seated : State → Bool
 seated s = serves (s .net .bits) (s .own)
 
--- Step 3: the start number rises and a start notice with the net view is written. (The mode is set where the proposal is made.)
+-- Step 3: the start number rises and a start notice with the net view is written. (The mode is set where the proposal
+-- is made.)
 unfoldable pub opened : State → State
 opened s = withStart (max (s .view .number) (s .start + 1)) s
 
@@ -116,7 +119,8 @@ inSlot s o = storedAt s o .proposal
 unfoldable pub matching : State → ℕ → Bool
 matching s o = not (eqb o (s .own)) && storedAt s o .present && eqb (inSlot s o .members .bits) (s .net .bits)
 
--- a matching slow proposal; one with a number above the own one; a matching proposal whose used number for this office is the own number
+-- a matching slow proposal; one with a number above the own one; a matching proposal whose used number for this
+-- office is the own number
 unfoldable pub matchingSlow : State → ℕ → Bool
 matchingSlow s o = matching s o && eqb (inSlot s o .kind) slow
 
@@ -149,14 +153,18 @@ unfoldable pub slowNumber : State → ℕ
 slowNumber s = ifb (anyb 16 (aboveOwn s)) (joinedNumber s) (nextNumber s)
 
 unfoldable pub proposesSlow : State → Outcome
-proposesSlow s = record { state = proposed Slow (slowNumber s) s; written = proposal (ownProposal Slow (slowNumber s) s) ∷ [] }
+proposesSlow s = record {
+  state = proposed Slow (slowNumber s) s;
+  written = proposal (ownProposal Slow (slowNumber s) s) ∷ [];
+}
 
 unfoldable pub slowTest : State → Outcome
 slowTest s = ifb (slowCalled s) (andThen (beginsIn (s .mode) s) proposesSlow) (nothingWritten s)
 
 -- Agreement test: what office o's stored proposal must be, by mode.
 unfoldable pub agreesKind : State → ℕ → Bool
-agreesKind s o = storedAt s o .present && eqb (inSlot s o .kind) (kindOf (s .mode)) && eqb (inSlot s o .members .bits) (s .net .bits)
+agreesKind s o = storedAt s o .present && eqb (inSlot s o .kind) (kindOf (s .mode))
+    && eqb (inSlot s o .members .bits) (s .net .bits)
 
 abbrev pub agreesIn : Mode → State → ℕ → Bool
 agreesIn None s o = false

@@ -79,32 +79,113 @@ numberIn v = ifb (v .present) (v .proposal .number) 0
 -- A state with one part changed; all else stays.
 abbrev pub withMode : Mode → State → State
 withMode m s =
-    record { own = s .own; mode = m; net = s .net; stored = s .stored; accepted = s .accepted; view = s .view; start = s .start; number = s .number; used = s .used }
+    record {
+      own = s .own;
+      mode = m;
+      net = s .net;
+      stored = s .stored;
+      accepted = s .accepted;
+      view = s .view;
+      start = s .start;
+      number = s .number;
+      used = s .used;
+    }
 
 abbrev pub withNetSet : SeatSet → State → State
 withNetSet x s =
-    record { own = s .own; mode = s .mode; net = x; stored = s .stored; accepted = s .accepted; view = s .view; start = s .start; number = s .number; used = s .used }
+    record {
+      own = s .own;
+      mode = s .mode;
+      net = x;
+      stored = s .stored;
+      accepted = s .accepted;
+      view = s .view;
+      start = s .start;
+      number = s .number;
+      used = s .used;
+    }
 
 abbrev pub withStored : ℕ → Slot → State → State
 withStored o v s =
-    record { own = s .own; mode = s .mode; net = s .net; stored = tab 16 (upd (storedAt s) o v); accepted = s .accepted; view = s .view; start = s .start; number = s .number; used = s .used }
+    record {
+      own = s .own;
+      mode = s .mode;
+      net = s .net;
+      stored = tab 16 (upd (storedAt s) o v);
+      accepted = s .accepted;
+      view = s .view;
+      start = s .start;
+      number = s .number;
+      used = s .used;
+    }
 
 abbrev pub withAccepted : ℕ → ℕ → State → State
 withAccepted o n s =
-    record { own = s .own; mode = s .mode; net = s .net; stored = s .stored; accepted = tab 16 (upd (acceptedAt s) o n); view = s .view; start = s .start; number = s .number; used = s .used }
+    record {
+      own = s .own;
+      mode = s .mode;
+      net = s .net;
+      stored = s .stored;
+      accepted = tab 16 (upd (acceptedAt s) o n);
+      view = s .view;
+      start = s .start;
+      number = s .number;
+      used =
+          s .used;
+    }
 
 abbrev pub withView : View → State → State
 withView v s =
-    record { own = s .own; mode = s .mode; net = s .net; stored = s .stored; accepted = s .accepted; view = v; start = s .start; number = s .number; used = s .used }
+    record {
+      own = s .own;
+      mode = s .mode;
+      net = s .net;
+      stored = s .stored;
+      accepted = s .accepted;
+      view = v;
+      start = s .start;
+      number = s .number;
+      used = s .used;
+    }
 
 abbrev pub withStart : ℕ → State → State
 withStart n s =
-    record { own = s .own; mode = s .mode; net = s .net; stored = s .stored; accepted = s .accepted; view = s .view; start = n; number = s .number; used = s .used }
+    record {
+      own = s .own;
+      mode = s .mode;
+      net = s .net;
+      stored = s .stored;
+      accepted = s .accepted;
+      view = s .view;
+      start = n;
+      number = s .number;
+      used = s .used;
+    }
 
 abbrev pub withNumber : ℕ → State → State
 withNumber n s =
-    record { own = s .own; mode = s .mode; net = s .net; stored = s .stored; accepted = s .accepted; view = s .view; start = s .start; number = n; used = s .used }
+    record {
+      own = s .own;
+      mode = s .mode;
+      net = s .net;
+      stored = s .stored;
+      accepted = s .accepted;
+      view = s .view;
+      start = s .start;
+      number = n;
+      used = s .used;
+    }
 
 abbrev pub withUsed : ℕ → ℕ → State → State
 withUsed o n s =
-    record { own = s .own; mode = s .mode; net = s .net; stored = s .stored; accepted = s .accepted; view = s .view; start = s .start; number = s .number; used = tab 16 (upd (usedAt s) o n) }
+    record {
+      own = s .own;
+      mode = s .mode;
+      net = s .net;
+      stored = s .stored;
+      accepted = s .accepted;
+      view = s .view;
+      start = s .start;
+      number = s .number;
+      used = tab 16 (upd (usedAt s) o n);
+    }

@@ -9,7 +9,8 @@ use borrow.Author.Tests.{ltb-false}
 use Rattle.records.specs.declared.Proposal.{Proposal}
 use Rattle.rules.specs.State.{State}
 use Rattle.rules.specs.Rules.{Outcome}
-use Rattle.rules.specs.Refusals.{fullRoom, wellFormed, Event, aProposal, refusalOf, ruleOf, accepting, actOf, Result, takeOf}
+use Rattle.rules.specs.Refusals.{fullRoom, wellFormed, Event, aProposal, refusalOf, ruleOf, accepting, actOf, Result}
+use Rattle.rules.specs.Refusals.{takeOf}
 use Rattle.rules.specs.Refusals.{accepted}
 use Rattle.rule_laws.proofs.Steps.{Refused, Takes, Passes, check-facts, take-accepts, take-cases}
 use Rattle.runs.specs.World.{World, proposalAnswer}
@@ -22,12 +23,15 @@ module _ (s : State) (e : Event) (room : ℕ) where
   unfolding takeOf actOf accepting
   accepts-or-barred w z = go (ltb room fullRoom) refl (wellFormed (ruleOf s e .state)) refl
     where
-      go : (t : Bool) → ltb room fullRoom ≡ t → (u : Bool) → wellFormed (ruleOf s e .state) ≡ u → Takes s e room ⊎ Barred (takeOf s e room)
+      go : (t : Bool) → ltb room fullRoom ≡ t → (u : Bool) → wellFormed (ruleOf s e .state) ≡ u
+          → Takes s e room ⊎ Barred (takeOf s e room)
       go true l u x = inr (inl (rw (w, l)))
-      go false l true x = inl (record { well = w; fits = ltb-false room fullRoom l; acts = record { passes = z; within = x } })
+      go false l true x =
+          inl (record { well = w; fits = ltb-false room fullRoom l; acts = record { passes = z; within = x } })
       go false l false x = inr (inr (rw (w, l, z, x)))
 
-  pub accepted-or-barred : wellFormed s ≡ true → refusalOf s e ≡ 0 → Takes s e room ⊎ (Refused s (takeOf s e room) × Barred (takeOf s e room))
+  pub accepted-or-barred : wellFormed s ≡ true → refusalOf s e ≡ 0
+      → Takes s e room ⊎ (Refused s (takeOf s e room) × Barred (takeOf s e room))
   accepted-or-barred w z = go (take-cases s e room) (accepts-or-barred w z)
     where
       go : Refused s (takeOf s e room) ⊎ Takes s e room → Takes s e room ⊎ Barred (takeOf s e room)
@@ -38,14 +42,16 @@ module _ (s : State) (e : Event) (room : ℕ) where
 
 -- a proposal that cannot be one of the net view's members: nothing is written
 pub unheard : (w : World) (o room : ℕ) (p : Proposal)
-    → ((q : Proposal) → Passes (w .state o) q → q .sender ≡ p .sender → q .members .bits ≡ w .state o .net .bits → ⊥) → proposalAnswer w o p room .written ≡ []
+    → ((q : Proposal) → Passes (w .state o) q → q .sender ≡ p .sender → q .members .bits ≡ w .state o .net .bits → ⊥)
+    → proposalAnswer w o p room .written ≡ []
 unfolding proposalAnswer
 unheard w o room p n = go (take-cases s (aProposal p) room)
   where
     s : State
     s = w .state o
 
-    go : Refused s (takeOf s (aProposal p) room) ⊎ Takes s (aProposal p) room → takeOf s (aProposal p) room .written ≡ []
+    go : Refused s (takeOf s (aProposal p) room) ⊎ Takes s (aProposal p) room
+        → takeOf s (aProposal p) room .written ≡ []
     go (inl f) = ap (λ (z : Result). z .written) (f .is)
     go (inr f) =
         ap (λ (z : Result). z .written) (take-accepts s (aProposal p) room f)

@@ -1,5 +1,5 @@
--- The offices as the proofs see them: an array for each part of their states, the five parts of an event as changes of these
--- arrays, the events as rows of parts. A part that an event does not touch stays the same array.
+-- The offices as the proofs see them: an array for each part of their states, the five parts of an event as changes
+-- of these arrays, the events as rows of parts. A part that an event does not touch stays the same array.
 use mathlib.Core.Path.{_≡_}
 use mathlib.Core.Bool.{Bool, true, false, _&&_, not}
 use mathlib.Core.Logic.{_⊎_}
@@ -104,7 +104,8 @@ conclude g me t =
       acc = g .acc;
       used = upd (g .used) me (λ o. ifb (serves (g .net me) o) (numberIn (g .stored me o)) (g .used me o));
       link = g .link;
-      shown = upd (g .shown) me (record { view = viewWith (g .net me) (λ o. g .stored me o .proposal .start); sent = t } ∷ g .shown me);
+      shown = upd (g .shown) me
+          (record { view = viewWith (g .net me) (λ o. g .stored me o .proposal .start); sent = t } ∷ g .shown me);
       made = g .made;
       seen = upd (g .seen) me (λ o. g .stored me o .proposal .start);
     }
@@ -143,7 +144,8 @@ pub record Proposes (g : Offices) (me kind : ℕ) (p : Proposal) : Type 0 where
 -- slow agreement is called for
 pub data Calls (g : Offices) (me : ℕ) : Type 0 where
   in-none : g .mode me ≡ None → Calls g me
-  heard-slow : g .mode me ≡ Fast → (o : ℕ) → o < 16 → (o ≡ me → ⊥) → Match g me o → other g me o .kind ≡ slow → Calls g me
+  heard-slow : g .mode me ≡ Fast → (o : ℕ) → o < 16 → (o ≡ me → ⊥) → Match g me o → other g me o .kind ≡ slow
+      → Calls g me
   is-used : (o : ℕ) → o < 16 → (o ≡ me → ⊥) → Match g me o → usedFor (other g me o) me ≡ g .num me → Calls g me
   above-own : g .mode me ≡ Slow → (o : ℕ) → o < 16 → (o ≡ me → ⊥) → Match g me o → other g me o .kind ≡ slow
       → g .num me < other g me o .number → Calls g me
@@ -158,11 +160,14 @@ pub record Silent (g : Offices) (me : ℕ) : Type 0 where
 
 -- a matching slow proposal of another office has a number above the own one
 abbrev pub Joinable : Offices → ℕ → ℕ → Type 0
-Joinable g me o = (o < 16) × (o ≡ me → ⊥) × Match g me o × (other g me o .kind ≡ slow) × (g .num me < other g me o .number)
+Joinable g me o = (o < 16) × (o ≡ me → ⊥) × Match g me o × (other g me o .kind ≡ slow)
+    × (g .num me < other g me o .number)
 
--- n is the number of a slow proposal that office me makes: the largest that it can join, or a new one where there is none
+-- n is the number of a slow proposal that office me makes: the largest that it can join, or a new one where there is
+-- none
 pub data Chosen (g : Offices) (me n : ℕ) : Type 0 where
-  joins : (o : ℕ) → Joinable g me o → n ≡ other g me o .number → ((q : ℕ) → Joinable g me q → other g me q .number ≤ n) → Chosen g me n
+  joins : (o : ℕ) → Joinable g me o → n ≡ other g me o .number
+      → ((q : ℕ) → Joinable g me q → other g me q .number ≤ n) → Chosen g me n
   starts : ((o : ℕ) → Joinable g me o → ⊥) → Chosen g me n
 
 -- the agreement test
@@ -214,16 +219,22 @@ module _ (F : ℕ → Bool) where
   -- between offices of F only the room or the ceiling refuses. A repeat does nothing; other reports give the office another net view.
   pub data Happens (w : World) : WorldEvent → Offices → Offices → Type 0 where
     idles : {e : WorldEvent} {g : Offices} → Apart w e → Happens w e g g
-    refuses : {g : Offices} {me room : ℕ} {r : Report} → InF F me → Barred (reportAnswer w me r room) → Happens w (report me r room) g g
-    repeated : {g : Offices} {me room : ℕ} {r : Report} → InF F me → netAfter (g .net me) r ≡ g .net me → Happens w (report me r room) g g
-    loses : {g : Offices} {i j place : ℕ} → FromF i j → Happens w (loss i j place) g (relink g i j (without place (g .link i j)))
-    drops : {g : Offices} {i j room : ℕ} → FromF i j → (InF F j → (r : Result) × Gives w (delivery i j room) j r × Barred r)
+    refuses : {g : Offices} {me room : ℕ} {r : Report} → InF F me → Barred (reportAnswer w me r room)
+        → Happens w (report me r room) g g
+    repeated : {g : Offices} {me room : ℕ} {r : Report} → InF F me → netAfter (g .net me) r ≡ g .net me
+        → Happens w (report me r room) g g
+    loses : {g : Offices} {i j place : ℕ} → FromF i j
+        → Happens w (loss i j place) g (relink g i j (without place (g .link i j)))
+    drops : {g : Offices} {i j room : ℕ} → FromF i j
+        → (InF F j → (r : Result) × Gives w (delivery i j room) j r × Barred r)
         → Happens w (delivery i j room) g (relink g i j (without 0 (g .link i j)))
     leaves : {g : Offices} {me room : ℕ} {r : Report} (x : ℕ) → InF F me → (x ≡ g .net me → ⊥) → serves x me ≡ false
         → Happens w (report me r room) g (renet g me x)
-    reports : {g h : Offices} {me room : ℕ} {r : Report} (x : ℕ) (p : Proposal) → InF F me → (x ≡ g .net me → ⊥) → Proposes (renet g me x) me fast p
+    reports : {g h : Offices} {me room : ℕ} {r : Report} (x : ℕ) (p : Proposal) → InF F me → (x ≡ g .net me → ⊥)
+        → Proposes (renet g me x) me fast p
         → Tests (w .clock) me (propose (renet g me x) me Fast p (w .clock)) h → Happens w (report me r room) g h
-    stores : {g : Offices} {i me room : ℕ} (p : Proposal) (l : List Item) → Arrives g me i p l → (p .members .bits ≡ g .net me → ⊥)
+    stores : {g : Offices} {i me room : ℕ} (p : Proposal) (l : List Item) → Arrives g me i p l
+        → (p .members .bits ≡ g .net me → ⊥)
         → Happens w (delivery i me room) g (receive g me i p l)
     answers : {g h : Offices} {i me room : ℕ} (p : Proposal) (l : List Item) → Arrives g me i p l → p .members .bits ≡ g .net me
         → Tests (w .clock) me (receive g me i p l) h → Happens w (delivery i me room) g h
@@ -237,10 +248,12 @@ module _ (F : ℕ → Bool) where
     pub told : (i j : ℕ) → InF F i → InF F j → (i ≡ j → ⊥) → Every (λ x. usedFor (x .proposal) j ≤ g .num j) (g .link i j)
     -- what is stored has the number last accepted
     pub kept : (i j : ℕ) → InF F i → InF F j → (i ≡ j → ⊥) → g .stored j i .present ≡ true → other g j i .number ≡ g .acc j i
-    pub kept-used : (i j : ℕ) → InF F i → InF F j → (i ≡ j → ⊥) → g .stored j i .present ≡ true → usedFor (other g j i) j ≤ g .num j
+    pub kept-used : (i j : ℕ) → InF F i → InF F j → (i ≡ j → ⊥) → g .stored j i .present ≡ true
+        → usedFor (other g j i) j ≤ g .num j
     pub used-acc : (i j : ℕ) → InF F i → InF F j → (i ≡ j → ⊥) → g .used j i ≤ g .acc j i
     -- what is stored for another office has a seat of that office
-    pub with-seat : (i o : ℕ) → InF F i → o < 16 → (o ≡ i → ⊥) → g .stored i o .present ≡ true → serves (other g i o .members .bits) o ≡ true
+    pub with-seat : (i o : ℕ) → InF F i → o < 16 → (o ≡ i → ⊥) → g .stored i o .present ≡ true
+        → serves (other g i o .members .bits) o ≡ true
     -- what is stored as the own, and used of it, is not above the own number
     pub own-kept : (i : ℕ) → InF F i → g .stored i i .present ≡ true → other g i i .number ≤ g .num i
     pub own-used : (i : ℕ) → InF F i → g .used i i ≤ g .num i

@@ -1,4 +1,5 @@
--- A delivery at an office of F is an event of the arrays; between offices of F nothing but the room or the ceiling refuses it.
+-- A delivery at an office of F is an event of the arrays; between offices of F nothing but the room or the ceiling
+-- refuses it.
 use mathlib.Core.Path.{_≡_, refl, sym, ap, subst, _∙_}
 use mathlib.Core.Bool.{Bool, true, false}
 use mathlib.Core.Logic.{_⊎_, inl, inr}
@@ -17,12 +18,15 @@ use Rattle.rules.specs.State.{State, usedAt}
 use Rattle.rules.specs.Rules.{nothingWritten, received, receives, proposalRule}
 use Rattle.records.specs.Numbers.{limit}
 use Rattle.rules.specs.Refusals.{wellFormed, Event, aProposal, refusalOf, ruleOf, Result, takeOf, accepted}
-use Rattle.rule_laws.proofs.Steps.{Refused, Takes, Passes, well-facts, check-facts, facts-check, take-accepts, take-cases}
+use Rattle.rule_laws.proofs.Steps.{Refused, Takes, Passes, well-facts, check-facts, facts-check, take-accepts}
+use Rattle.rule_laws.proofs.Steps.{take-cases}
 use Rattle.rule_laws.proofs.Parts.{received-reads}
 use Rattle.rule_laws.proofs.Walk.{staged-proposal}
-use Rattle.runs.specs.World.{Item, World, delivery, without, answered, withLink, proposalAnswer, to-proposal, Among}
+use Rattle.runs.specs.World.{Item, World, delivery, without, answered, withLink, proposalAnswer, to-proposal}
+use Rattle.runs.specs.World.{Among}
 use Rattle.runs.specs.Begins.{InF}
-use Rattle.runs.proofs.Arrays.{Offices, Barred, receive, relink, Arrives, FromF, Numbers, Happens, idles, drops, stores, answers}
+use Rattle.runs.proofs.Arrays.{Offices, Barred, receive, relink, Arrives, FromF, Numbers, Happens, idles}
+use Rattle.runs.proofs.Arrays.{drops, stores, answers}
 use Rattle.runs.proofs.Links.{rising-head}
 use Rattle.laws.proofs.Grid.{upd2-agree, upd2-cases}
 use Rattle.runs.proofs.StateArrays.{Sim, sim-receive}
@@ -38,10 +42,12 @@ module _ (F : ℕ → Bool) where
       → (a b : ℕ) → FromF F a b → withLink w i j l .link a b ≡ g .link a b
   unfolding withLink
   outside-link w g i j l s out a b c =
-      upd2-cases (λ (a b : ℕ) (m : List Item). FromF F a b → m ≡ g .link a b) (w .link) i j l a b (λ c. absurd (out (c .0))) (λ m c. s .links a b c) c
+      upd2-cases (λ (a b : ℕ) (m : List Item). FromF F a b → m ≡ g .link a b) (w .link) i j l a b
+      (λ c. absurd (out (c .0))) (λ m c. s .links a b c) c
 
   -- the front of a link is taken off, and the arrays of F lose it too where they have it
-  module _ (w : World) (g : Offices) (i j : ℕ) (x : Item) (l : List Item) (seen : SeenAll F w g) (front : w .link i j ≡ x ∷ l) where
+  module _ (w : World) (g : Offices) (i j : ℕ) (x : Item) (l : List Item) (seen : SeenAll F w g)
+      (front : w .link i j ≡ x ∷ l) where
     pub taken-outside : (y : ℕ) → (InF F i → ⊥) → Linked F w g g y i j l
     taken-outside y out = record {
       kept = λ a n. record { num = refl; mode = refl; net = refl; stored = refl; acc = refl; used = refl };
@@ -60,7 +66,8 @@ module _ (F : ℕ → Bool) where
     }
 
   -- a delivery at an office of F: the proposal x, with l behind it, from the office i
-  module _ (w : World) (g : Offices) (i me room : ℕ) (x : Item) (l : List Item) (seen : SeenAll F w g) (core : Numbers F g) (q : InF F me)
+  module _ (w : World) (g : Offices) (i me room : ℕ) (x : Item) (l : List Item) (seen : SeenAll F w g)
+      (core : Numbers F g) (q : InF F me)
       (front : w .link i me ≡ x ∷ l) (among : Among (delivery i me room)) where
     abbrev own-state : State
     own-state = w .state me
@@ -69,7 +76,8 @@ module _ (F : ℕ → Bool) where
     p = x .proposal
 
     abbrev Acted : Type 0
-    Acted = (h : Offices) × Happens F w (delivery i me room) g h × SeenAll F (answered (withLink w i me l) me (proposalAnswer w me (x .proposal) room)) h
+    Acted = (h : Offices) × Happens F w (delivery i me room) g h
+        × SeenAll F (answered (withLink w i me l) me (proposalAnswer w me (x .proposal) room)) h
 
     sim-me : Sim own-state g me
     sim-me = seen .sim me q (below-sixteen F (q .0))
@@ -124,7 +132,8 @@ module _ (F : ℕ → Bool) where
             behind = rw (sim-me .own, n) u;
           }
 
-      accepted-or : Takes own-state (aProposal p) room ⊎ (Refused own-state (takeOf own-state (aProposal p) room) × Barred (takeOf own-state (aProposal p) room))
+      accepted-or : Takes own-state (aProposal p) room
+          ⊎ (Refused own-state (takeOf own-state (aProposal p) room) × Barred (takeOf own-state (aProposal p) room))
       accepted-or =
           accepted-or-barred own-state (aProposal p) room (good-me .passes) (facts-check own-state (x .proposal) facts)
 
@@ -135,14 +144,19 @@ module _ (F : ℕ → Bool) where
       unfolding proposalAnswer answered withLink
       refused-seen h s m =
           subst (λ (z : Result). SeenAll F (answered (withLink w i me l) me z) h) (sym (r .is))
-          (seen-moved F (withLink w i me l) h h me (nothingWritten own-state) s ans q (moved-none (w .clock) me h own-state m))
+          (seen-moved F (withLink w i me l) h h me (nothingWritten own-state) s ans q
+          (moved-none (w .clock) me h own-state m))
         where
           ans : GoodAnswer F me (nothingWritten own-state)
           ans = record { is-good = good-me; own = sim-me .own; sends = none; below = none; names = none }
 
       refused-outside : (InF F i → ⊥) → Acted
-      refused-outside out =
-          (g, idles {e = delivery i me room} (λ a b. absurd (out a)), refused-seen g (seen-linked F w g g me i me l seen (taken-outside w g i me x l seen front me out)) sim-me)
+      refused-outside out = (
+        g,
+        idles {e = delivery i me room} (λ a b. absurd (out a)),
+        refused-seen g (seen-linked F w g g me i me l seen (taken-outside w g i me x l seen front me out))
+            sim-me,
+      )
 
       refused-from : InF F i → Barred (takeOf own-state (aProposal p) room) → Acted
       unfolding relink proposalAnswer
@@ -152,7 +166,15 @@ module _ (F : ℕ → Bool) where
             h,
             drops f (λ _. (proposalAnswer w me (x .proposal) room, to-proposal i me room x l front, b)),
             refused-seen h (seen-linked F w g h me i me l seen (taken-from w g i me x l seen front me f))
-                (record { own = sim-me .own; num = sim-me .num; mode = sim-me .mode; net = sim-me .net; stored = sim-me .stored; acc = sim-me .acc; used = sim-me .used }),
+                (record {
+                  own = sim-me .own;
+                  num = sim-me .num;
+                  mode = sim-me .mode;
+                  net = sim-me .net;
+                  stored = sim-me .stored;
+                  acc = sim-me .acc;
+                  used = sim-me .used;
+                }),
           )
 
     -- accepted
@@ -183,7 +205,8 @@ module _ (F : ℕ → Bool) where
       arrived = receive g me i p l
 
       sim-arrived : Sim stored-at arrived me
-      sim-arrived = subst (λ (k : ℕ). Sim stored-at (receive g me k p l) me) from-i (sim-receive own-state g me sim-me p l)
+      sim-arrived = subst (λ (k : ℕ). Sim stored-at (receive g me k p l) me) from-i
+          (sim-receive own-state g me sim-me p l)
 
       linked-arrived : Linked F w g arrived me i me l
       unfolding receive withLink
@@ -234,14 +257,20 @@ module _ (F : ℕ → Bool) where
           → EachProposal (λ p. (j : ℕ) → receives p j ≡ true → Valid me j p) (proposalRule own-state p .written)
           → SeenAll F (answered (withLink w i me l) me (proposalAnswer w me (x .proposal) room)) k
       unfolding withLink
-      ends k moved valid = rw accepted-as (seen-moved F (withLink w i me l) arrived k me (proposalRule own-state p) seen-arrived ans q moved)
+      ends k moved valid =
+          rw accepted-as (seen-moved F (withLink w i me l) arrived k me (proposalRule own-state p) seen-arrived ans q
+          moved)
         where
           makes : Makes stored-at (proposalRule own-state p)
           makes = makes-proposal own-state p
 
           ans : GoodAnswer F me (proposalRule own-state p)
           ans = record {
-            is-good = record { passes = within-limit; net = rw (makes .net, net-is) (good-me .net); begun = makes .begun begun-is };
+            is-good = record {
+              passes = within-limit;
+              net = rw (makes .net, net-is) (good-me .net);
+              begun = makes .begun begun-is;
+            };
             own = makes .own ∙ own-is;
             sends = valid;
             below = each-map (made-below stored-at (proposalRule own-state p .state) me (q .0) behind) (makes .sends);
@@ -250,12 +279,18 @@ module _ (F : ℕ → Bool) where
 
       taken : p .members .bits ≡ own-state .net .bits → Acted
       taken same =
-          let t = staged-proposal (moving (w .clock) me arrived arrived) own-state p (λ n. absurd (n same)) (λ _. moved-none (w .clock) me arrived stored-at sim-arrived) in
+          let t = staged-proposal (moving (w .clock) me arrived arrived) own-state p (λ n. absurd (n same))
+          (λ _. moved-none (w .clock) me arrived stored-at sim-arrived) in
           let seat : serves (stored-at .net .bits) me ≡ true
-          = ap (λ (y : ℕ). serves y me) (net-is ∙ sym same) ∙ ap (serves (p .members .bits)) (sym (sim-me .own)) ∙ passed .ownSeat in
+          = ap (λ (y : ℕ). serves y me) (net-is ∙ sym same) ∙ ap (serves (p .members .bits)) (sym (sim-me .own))
+          ∙ passed .ownSeat in
           let lt : stored-at .net .bits < 2 ^ 64 = rw net-is (good-me .net) in
-          let valid = made-valid stored-at (proposalRule own-state p .state) me own-is (q .0) lt seat within-used (well-facts _ within-limit) begun-is in
-          (t .0, answers p l arrives (same ∙ sim-me .net) (t .1), ends (t .0) (t .2) (each-map valid (makes-proposal own-state p .sends)))
+          let valid = made-valid stored-at (proposalRule own-state p .state) me own-is (q .0) lt seat within-used
+          (well-facts _ within-limit) begun-is in (
+            t .0,
+            answers p l arrives (same ∙ sim-me .net) (t .1),
+            ends (t .0) (t .2) (each-map valid (makes-proposal own-state p .sends)),
+          )
 
       kept-back : (p .members .bits ≡ own-state .net .bits → ⊥) → Acted
       kept-back other =
@@ -275,11 +310,14 @@ module _ (F : ℕ → Bool) where
     pub delivery-acts : Acted
     delivery-acts = go (F i) refl
       where
-        from : InF F i → Takes own-state (aProposal p) room ⊎ (Refused own-state (takeOf own-state (aProposal p) room) × Barred (takeOf own-state (aProposal p) room)) → Acted
+        from : InF F i → Takes own-state (aProposal p) room
+            ⊎ (Refused own-state (takeOf own-state (aProposal p) room) × Barred (takeOf own-state (aProposal p) room))
+            → Acted
         from f (inl a) = accepted-acts a
         from f (inr r) = refused-from (r .0) f (r .1)
 
-        outside : (InF F i → ⊥) → Refused own-state (takeOf own-state (aProposal p) room) ⊎ Takes own-state (aProposal p) room → Acted
+        outside : (InF F i → ⊥) → Refused own-state (takeOf own-state (aProposal p) room)
+            ⊎ Takes own-state (aProposal p) room → Acted
         outside o (inl r) = refused-outside r o
         outside o (inr a) = accepted-acts a
 

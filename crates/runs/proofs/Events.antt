@@ -59,7 +59,11 @@ module _ (F : ℕ → Bool) where
           let f : FromF F i j = (a, among .1, among .2) in
           let h = relink g i j (without place (g .link i j)) in
           (h, loses f, seen-idle F (withLink w i j rest) h (seen-linked F w g h 16 i j rest seen (lost f)))
-      go (inr out) = (g, idles {e = loss i j place} out, seen-idle F (withLink w i j rest) g (seen-linked F w g g 16 i j rest seen (outside out)))
+      go (inr out) = (
+        g,
+        idles {e = loss i j place} out,
+        seen-idle F (withLink w i j rest) g (seen-linked F w g g 16 i j rest seen (outside out)),
+      )
 
   -- a report to an office that is not of F
   report-outside : (w : World) (g : Offices) (o : ℕ) (rep : Report) (room : ℕ) → SeenAll F w g → (InF F o → ⊥) → o < 16
@@ -71,7 +75,8 @@ module _ (F : ℕ → Bool) where
       seen-outside F w g o _ seen lt out (n .0 ∙ own) (each-map (λ p e. e ∙ own) (n .1))
 
   -- a delivery to an office that is not of F
-  delivery-outside : (w : World) (g : Offices) (i j room : ℕ) (x : Item) (l : List Item) → SeenAll F w g → (InF F j → ⊥) → w .link i j ≡ x ∷ l
+  delivery-outside : (w : World) (g : Offices) (i j room : ℕ) (x : Item) (l : List Item) → SeenAll F w g
+      → (InF F j → ⊥) → w .link i j ≡ x ∷ l
       → Among (delivery i j room) → Acted w g (delivery i j room) (answered (withLink w i j l) j (proposalAnswer w j (x .proposal) room))
   unfolding proposalAnswer withLink
   delivery-outside w g i j room x l seen out front among = go (in-F? i (among .0))
@@ -80,14 +85,20 @@ module _ (F : ℕ → Bool) where
       ends h k =
           let n = step-names (w .state j) (aProposal (x .proposal)) room in
           let own : w .state j .own ≡ j = seen .owns j (among .1) (below-sixteen F (among .1)) in
-          seen-outside F (withLink w i j l) h j _ (seen-linked F w g h 16 i j l seen k) (among .1) out (n .0 ∙ own) (each-map (λ p e. e ∙ own) (n .1))
+          seen-outside F (withLink w i j l) h j _ (seen-linked F w g h 16 i j l seen k) (among .1) out (n .0 ∙ own)
+          (each-map (λ p e. e ∙ own) (n .1))
 
-      go : InF F i ⊎ (InF F i → ⊥) → Acted w g (delivery i j room) (answered (withLink w i j l) j (proposalAnswer w j (x .proposal) room))
+      go : InF F i ⊎ (InF F i → ⊥)
+          → Acted w g (delivery i j room) (answered (withLink w i j l) j (proposalAnswer w j (x .proposal) room))
       go (inl a) =
           let f : FromF F i j = (a, among .1, among .2) in
           let h = relink g i j (without 0 (g .link i j)) in
           (h, drops f (λ b. absurd (out b)), ends h (taken-from F w g i j x l seen front 16 f))
-      go (inr b) = (g, idles {e = delivery i j room} (λ a c. absurd (out c)), ends g (taken-outside F w g i j x l seen front 16 b))
+      go (inr b) = (
+        g,
+        idles {e = delivery i j room} (λ a c. absurd (out c)),
+        ends g (taken-outside F w g i j x l seen front 16 b),
+      )
 
   -- every event
   pub world-acts : (w : World) (g : Offices) (e : WorldEvent) → SeenAll F w g → Numbers F g → Among e → Acted w g e (next w e)

@@ -28,7 +28,8 @@ pub rising-high : {lo hi : ℕ} {l : List Item} (b : ℕ) → hi ≤ b → Risin
 rising-high {lo} {hi} b h (end e) = let k : lo ≤ b = omega arith in end k
 rising-high b h (next e r) = next e (rising-high b h r)
 
-pub rising-snoc : {lo hi : ℕ} {l : List Item} (x : Item) → hi < x .proposal .number → Rising lo hi l → Rising lo (x .proposal .number) (l ++ (x ∷ []))
+pub rising-snoc : {lo hi : ℕ} {l : List Item} (x : Item) → hi < x .proposal .number → Rising lo hi l
+    → Rising lo (x .proposal .number) (l ++ (x ∷ []))
 rising-snoc {lo} {hi} x h (end e) =
     let a : lo < x .proposal .number = omega arith in
     let b : x .proposal .number ≤ x .proposal .number = omega arith in
@@ -41,7 +42,8 @@ rising-cons (next h r) = h
 pub rising-tail : {lo hi : ℕ} {x : Item} {l : List Item} → Rising lo hi (x ∷ l) → Rising (x .proposal .number) hi l
 rising-tail (next h r) = r
 
-pub rising-head : {lo hi : ℕ} {x : Item} {l : List Item} → Rising lo hi (x ∷ l) → (lo < x .proposal .number) × (x .proposal .number ≤ hi)
+pub rising-head : {lo hi : ℕ} {x : Item} {l : List Item} → Rising lo hi (x ∷ l) → (lo < x .proposal .number)
+    × (x .proposal .number ≤ hi)
 rising-head (next h r) = (h, rising-le r)
 
 pub rising-without : {lo hi : ℕ} (n : ℕ) (l : List Item) → Rising lo hi l → Rising lo hi (without n l)
@@ -50,7 +52,8 @@ rising-without zero (x ∷ l) r = let h = rising-cons r in rising-low _ (omega a
 rising-without (suc n) (x ∷ l) r = next (rising-cons r) (rising-without n l (rising-tail r))
 
 -- the last item
-pub rising-last : {lo hi : ℕ} (l : List Item) (x : Item) → Rising lo hi (l ++ (x ∷ [])) → (lo < x .proposal .number) × (x .proposal .number ≤ hi)
+pub rising-last : {lo hi : ℕ} (l : List Item) (x : Item) → Rising lo hi (l ++ (x ∷ [])) → (lo < x .proposal .number)
+    × (x .proposal .number ≤ hi)
 rising-last [] x r = rising-head r
 rising-last (y ∷ l) x r = let h = rising-last l x (rising-tail r) in let e = rising-cons r in (omega arith, h .1)
 
@@ -73,7 +76,8 @@ without-snoc (suc n) [] x = inl ([], refl)
 without-snoc zero (y ∷ l) x = inl (l, refl)
 without-snoc (suc n) (y ∷ l) x = go (without-snoc n l x)
   where
-    go : ((m : List Item) × (without n (l ++ (x ∷ [])) ≡ m ++ (x ∷ []))) ⊎ ((n < length (l ++ (x ∷ []))) × (getD (l ++ (x ∷ [])) n x ≡ x))
+    go : ((m : List Item) × (without n (l ++ (x ∷ [])) ≡ m ++ (x ∷ [])))
+        ⊎ ((n < length (l ++ (x ∷ []))) × (getD (l ++ (x ∷ [])) n x ≡ x))
         → ((m : List Item) × (without (suc n) ((y ∷ l) ++ (x ∷ [])) ≡ m ++ (x ∷ [])))
         ⊎ ((suc n < length ((y ∷ l) ++ (x ∷ []))) × (getD ((y ∷ l) ++ (x ∷ [])) (suc n) x ≡ x))
     go (inl r) = inl (y ∷ r .0, ap (λ k. y ∷ k) (r .1))

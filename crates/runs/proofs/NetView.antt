@@ -32,17 +32,22 @@ step-net : (s : State) (e : Event) (room net : ℕ) → ruleOf s e .state .net .
     → takeOf s e room .state .net .bits ≡ ifb (eqb (takeOf s e room .refusal) 0) net (s .net .bits)
 step-net s e room net f = go (take-cases s e room)
   where
-    go : Refused s (takeOf s e room) ⊎ Takes s e room → takeOf s e room .state .net .bits ≡ ifb (eqb (takeOf s e room .refusal) 0) net (s .net .bits)
-    go (inl r) = rw (ne-eqb (takeOf s e room .refusal) 0 (r .reason)) (ap (λ (q : Result). q .state .net .bits) (r .is))
+    go : Refused s (takeOf s e room) ⊎ Takes s e room
+        → takeOf s e room .state .net .bits ≡ ifb (eqb (takeOf s e room .refusal) 0) net (s .net .bits)
+    go (inl r) = rw (ne-eqb (takeOf s e room .refusal) 0 (r .reason))
+        (ap (λ (q : Result). q .state .net .bits) (r .is))
     go (inr a) = rw (take-accepts s e room a) f
 
 step-report-net : (s : State) (r : Report) (room : ℕ)
-    → takeOf s (aReport r) room .state .net .bits ≡ ifb (eqb (takeOf s (aReport r) room .refusal) 0) (netAfter (s .net .bits) r) (s .net .bits)
+    → takeOf s (aReport r) room .state .net .bits ≡ ifb (eqb (takeOf s (aReport r) room .refusal) 0)
+    (netAfter (s .net .bits) r) (s .net .bits)
 step-report-net s r room = step-net s (aReport r) room _ (report-net s r)
 
-step-proposal-net : (s : State) (p : Proposal) (room : ℕ) → takeOf s (aProposal p) room .state .net .bits ≡ s .net .bits
+step-proposal-net : (s : State) (p : Proposal) (room : ℕ)
+    → takeOf s (aProposal p) room .state .net .bits ≡ s .net .bits
 step-proposal-net s p room =
-    step-net s (aProposal p) room (s .net .bits) (proposal-net s p) ∙ if-same (eqb (takeOf s (aProposal p) room .refusal) 0) (s .net .bits)
+    step-net s (aProposal p) room (s .net .bits) (proposal-net s p)
+    ∙ if-same (eqb (takeOf s (aProposal p) room .refusal) 0) (s .net .bits)
 
 -- an event gives office i the net view that the statement counts
 net-one : (w : World) (e : WorldEvent) (i : ℕ) → Among e → next w e .state i .net .bits ≡ netOne w e i (w .state i .net .bits)
@@ -50,16 +55,21 @@ unfolding next answered reportAnswer
 net-one w (report o r room) i a = go (ℕ-discrete i o)
   where
     go : Dec (i ≡ o) → upd (w .state) o (takeOf (w .state o) (aReport r) room .state) i .net .bits
-        ≡ ifb (eqb o i && eqb (takeOf (w .state o) (aReport r) room .refusal) 0) (netAfter (w .state i .net .bits) r) (w .state i .net .bits)
+        ≡ ifb (eqb o i && eqb (takeOf (w .state o) (aReport r) room .refusal) 0) (netAfter (w .state i .net .bits) r)
+        (w .state i .net .bits)
     go (yes e) =
         rw (e, upd-same (w .state) o (takeOf (w .state o) (aReport r) room .state), eq-eqb o o refl)
         (step-report-net (w .state o) r room)
-    go (no n) = rw (upd-other (w .state) o (takeOf (w .state o) (aReport r) room .state) i n, ne-eqb o i (λ e. n (sym e)))
+    go (no n) = rw (
+      upd-other (w .state) o (takeOf (w .state o) (aReport r) room .state) i n,
+      ne-eqb o i (λ e. n (sym e)),
+    )
 net-one w (delivery a b room) i m = go (w .link a b)
   where
     go : (l : List Item) → delivered w a b room l .state i .net .bits ≡ w .state i .net .bits
     go [] = unfold idle in refl
-    go (x ∷ l) = unfold proposalAnswer withLink in upd-cases (λ (i : ℕ) (s : State). s .net .bits ≡ w .state i .net .bits) (w .state) b _ i
+    go (x ∷ l) = unfold proposalAnswer withLink in
+        upd-cases (λ (i : ℕ) (s : State). s .net .bits ≡ w .state i .net .bits) (w .state) b _ i
         (step-proposal-net (w .state b) (x .proposal) room) (λ n. refl)
 net-one w (loss a b place) i m = unfold idle withLink in refl
 
@@ -100,7 +110,8 @@ unchanged-silent w o room r m e = go (take-cases s (aReport r) room)
         ap (λ (q : Result). q .written) did ∙ ap (λ (u : Outcome). u .written) (repeat-rule s r (net-repeat s r same))
 
 -- by the reports of the list up to event n, and one event more
-net-snoc : (w : World) (es : List WorldEvent) (e : WorldEvent) (i x : ℕ) → netBy w (es ++ (e ∷ [])) i x ≡ netOne (run w es) e i (netBy w es i x)
+net-snoc : (w : World) (es : List WorldEvent) (e : WorldEvent) (i x : ℕ)
+    → netBy w (es ++ (e ∷ [])) i x ≡ netOne (run w es) e i (netBy w es i x)
 unfolding runs netBy
 net-snoc w [] e i x = refl
 net-snoc w (f ∷ es) e i x = net-snoc (next w f) es e i (netOne w f i x)
@@ -116,7 +127,8 @@ among-take es n m k e h =
     m k e (omega arith, sym (getD-take n es k e (omega arith)) ∙ h .1)
 
 -- before event n of a run that the office began fresh
-pub net-at : (states : ℕ → State) (links : ℕ → ℕ → List Item) (es : List WorldEvent) (i : ℕ) → AllAmong es → states i ≡ fresh i
+pub net-at : (states : ℕ → State) (links : ℕ → ℕ → List Item) (es : List WorldEvent) (i : ℕ) → AllAmong es
+    → states i ≡ fresh i
     → (n : ℕ) → at (atFirst states links) es n .state i .net .bits ≡ netBy (atFirst states links) (take n es) i 0
 unfolding atFirst
 net-at states links es i m f n =

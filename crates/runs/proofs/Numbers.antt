@@ -26,24 +26,28 @@ use Rattle.runs.proofs.Links.{every-without, rising-le, rising-low, ris
 abbrev pub itemOf : ℕ → Proposal → Item
 itemOf t p = record { proposal = p; sent = t }
 
-pub mail-cases : (t : ℕ) (p : Proposal) (j : ℕ) (P : List Item → Type 0) → P (itemOf t p ∷ []) → P [] → P (mailTo t p j)
+pub mail-cases : (t : ℕ) (p : Proposal) (j : ℕ) (P : List Item → Type 0) → P (itemOf t p ∷ []) → P []
+    → P (mailTo t p j)
 mail-cases t p j P at not-at =
     if-cases P (serves (p .members .bits) j && not (eqb j (p .sender))) (itemOf t p ∷ []) [] (λ e. at) (λ e. not-at)
 
 -- the arrays that a part changes: where it acts, and elsewhere
 module _ (g : Offices) where
-  pub relink-cases : (i j : ℕ) (l : List Item) (P : ℕ → ℕ → List Item → Type 0) → P i j l → ((a b : ℕ) → P a b (g .link a b))
+  pub relink-cases : (i j : ℕ) (l : List Item) (P : ℕ → ℕ → List Item → Type 0) → P i j l
+      → ((a b : ℕ) → P a b (g .link a b))
       → (a b : ℕ) → P a b (relink g i j l .link a b)
   unfolding relink
   relink-cases i j l P at old a b = upd2-cases P (g .link) i j l a b at (λ n. old a b)
 
   -- what office a stores for office b, the number that it accepted from it and the link from b to a
-  pub receive-cases : (me i : ℕ) (p : Proposal) (l : List Item) (P : ℕ → ℕ → Slot → ℕ → List Item → Type 0) → P me i (keeping p) (p .number) l
+  pub receive-cases : (me i : ℕ) (p : Proposal) (l : List Item) (P : ℕ → ℕ → Slot → ℕ → List Item → Type 0)
+      → P me i (keeping p) (p .number) l
       → ((a b : ℕ) → P a b (g .stored a b) (g .acc a b) (g .link b a))
       → (a b : ℕ) → let h = receive g me i p l in P a b (h .stored a b) (h .acc a b) (h .link b a)
   unfolding receive
   receive-cases me i p l P at old a b =
-      upd2-cases (λ (a b : ℕ) (s : Slot). P a b s (upd2 (g .acc) me i (p .number) a b) (upd2 (g .link) i me l b a)) (g .stored) me i (keeping p) a b
+      upd2-cases (λ (a b : ℕ) (s : Slot). P a b s (upd2 (g .acc) me i (p .number) a b) (upd2 (g .link) i me l b a))
+      (g .stored) me i (keeping p) a b
       (rw (upd2-same (g .acc) me i (p .number), upd2-same (g .link) i me l) at)
       (λ n. rw (upd2-other (g .acc) me i (p .number) a b n, upd2-other (g .link) i me l b a (λ e k. n k e)) (old a b))
 
@@ -62,11 +66,13 @@ module _ (g : Offices) where
   -- what office a stores for office b and its used number: counted by the view, and elsewhere
   pub conclude-cases : (me t : ℕ) (P : ℕ → ℕ → Slot → ℕ → Type 0)
       → ((b : ℕ) → serves (g .net me) b ≡ true → P me b nothing (numberIn (g .stored me b)))
-      → ((a b : ℕ) → P a b (g .stored a b) (g .used a b)) → (a b : ℕ) → P a b (conclude g me t .stored a b) (conclude g me t .used a b)
+      → ((a b : ℕ) → P a b (g .stored a b) (g .used a b)) → (a b : ℕ)
+      → P a b (conclude g me t .stored a b) (conclude g me t .used a b)
   unfolding conclude
   conclude-cases me t P at old a b = go (ℕ-discrete a me)
     where
-      test : (s : Bool) → serves (g .net me) b ≡ s → P me b (ifb s nothing (g .stored me b)) (ifb s (numberIn (g .stored me b)) (g .used me b))
+      test : (s : Bool) → serves (g .net me) b ≡ s
+          → P me b (ifb s nothing (g .stored me b)) (ifb s (numberIn (g .stored me b)) (g .used me b))
       test true e = at b e
       test false e = old me b
 
@@ -76,7 +82,8 @@ module _ (g : Offices) where
 
 -- a proposal made: what another office stores, and the own number rises
 module _ (g : Offices) (me : ℕ) (m : Mode) (p : Proposal) (t : ℕ) where
-  pub said-stored : (P : Slot → Type 0) (a b : ℕ) → (a ≡ b → ⊥) → P (g .stored a b) → P (propose g me m p t .stored a b)
+  pub said-stored : (P : Slot → Type 0) (a b : ℕ) → (a ≡ b → ⊥) → P (g .stored a b)
+      → P (propose g me m p t .stored a b)
   unfolding propose
   said-stored P a b ne q = rw (upd2-other (g .stored) me me (keeping p) a b (λ e k. ne (e ∙ sym k))) q
 
@@ -125,56 +132,59 @@ module _ (F : ℕ → Bool) where
         own-used = h .own-used;
       }
 
-  module _ (g : Offices) (me i : ℕ) (p : Proposal) (l : List Item) (h : Numbers F g) (arrives : Arrives F g me i p l) where
-    pub numbers-receive : Numbers F (receive g me i p l)
-    unfolding receive
-    numbers-receive =
-        record {
-          rows =
-              λ a b. receive-cases g me i p l (λ b a s n k. FromF F a b → Rising 0 (g .num a) k)
-              (λ f. let y = arrives .oldest (f .0) in
-              rising-low 0 (omega arith) (rising-tail (rw (y .1) at (h .rows i me f))))
-              (λ b a. h .rows a b) b a;
-          rising =
-              λ a b. receive-cases g me i p l (λ b a s n k. OfTwo a b (Rising n (g .num a) k))
-              (λ oi om ne. let y = arrives .oldest oi in rw (y .2) at (rising-tail (rw (y .1) at (h .rising i me oi om ne))))
-              (λ b a. h .rising a b) b a;
-          told =
-              λ a b. receive-cases g me i p l (λ b a s n k. OfTwo a b (Every (λ x. usedFor (x .proposal) b ≤ g .num b) k))
-              (λ oi om ne. every-tail (rw (arrives .oldest oi .1) at (h .told i me oi om ne)))
-              (λ b a. h .told a b) b a;
-          kept =
-              λ a b. receive-cases g me i p l
-              (λ b a s n k. OfTwo a b (s .present ≡ true → s .proposal .number ≡ n))
-              (λ oi om ne e. refl)
-              (λ b a. h .kept a b) b a;
-          kept-used =
-              λ a b. receive-cases g me i p l
-              (λ b a s n k. OfTwo a b (s .present ≡ true → usedFor (s .proposal) b ≤ g .num b))
-              (λ oi om ne e. let y = arrives .oldest oi in rw (y .2) at (every-head (rw (y .1) at (h .told i me oi om ne))))
-              (λ b a. h .kept-used a b) b a;
-          used-acc =
-              λ a b. receive-cases g me i p l (λ b a s n k. OfTwo a b (g .used b a ≤ n))
-              (λ oi om ne.
-              let y = arrives .oldest oi in
-              let r = rising-head (rw (y .1) at (h .rising i me oi om ne)) in
-              let u = h .used-acc i me oi om ne in
-              rw (← y .2) (omega arith))
-              (λ b a. h .used-acc a b) b a;
-          with-seat =
-              λ a o. receive-cases g me i p l
-              (λ a o s n k. InF F a → o < 16 → (o ≡ a → ⊥) → s .present ≡ true → serves (s .proposal .members .bits) o ≡ true)
-              (λ om oi ne e. arrives .with-seat)
-              (λ a o. h .with-seat a o) a o;
-          own-kept =
-              λ a. receive-cases g me i p l
-              (λ a b s n k. b ≡ a → InF F a → s .present ≡ true → s .proposal .number ≤ g .num a)
-              (λ e. absurd (arrives .others e))
-              (λ a b e o. rw e (h .own-kept a o)) a a refl;
-          own-used = h .own-used;
-        }
+  module _ (g : Offices) (me i : ℕ) (p : Proposal) (l : List Item) (h : Numbers F g) (arrives : Arrives F g me i p l)
+    where
+      pub numbers-receive : Numbers F (receive g me i p l)
+      unfolding receive
+      numbers-receive =
+          record {
+            rows =
+                λ a b. receive-cases g me i p l (λ b a s n k. FromF F a b → Rising 0 (g .num a) k)
+                (λ f. let y = arrives .oldest (f .0) in
+                rising-low 0 (omega arith) (rising-tail (rw (y .1) at (h .rows i me f))))
+                (λ b a. h .rows a b) b a;
+            rising =
+                λ a b. receive-cases g me i p l (λ b a s n k. OfTwo a b (Rising n (g .num a) k))
+                (λ oi om ne. let y = arrives .oldest oi in rw (y .2) at (rising-tail (rw (y .1) at (h .rising i me oi om ne))))
+                (λ b a. h .rising a b) b a;
+            told =
+                λ a b. receive-cases g me i p l (λ b a s n k. OfTwo a b (Every (λ x. usedFor (x .proposal) b ≤ g .num b) k))
+                (λ oi om ne. every-tail (rw (arrives .oldest oi .1) at (h .told i me oi om ne)))
+                (λ b a. h .told a b) b a;
+            kept =
+                λ a b. receive-cases g me i p l
+                (λ b a s n k. OfTwo a b (s .present ≡ true → s .proposal .number ≡ n))
+                (λ oi om ne e. refl)
+                (λ b a. h .kept a b) b a;
+            kept-used =
+                λ a b. receive-cases g me i p l
+                (λ b a s n k. OfTwo a b (s .present ≡ true → usedFor (s .proposal) b ≤ g .num b))
+                (λ oi om ne e. let y = arrives .oldest oi in rw (y .2) at (every-head (rw (y .1) at (h .told i me oi om ne))))
+                (λ b a. h .kept-used a b) b a;
+            used-acc =
+                λ a b. receive-cases g me i p l (λ b a s n k. OfTwo a b (g .used b a ≤ n))
+                (λ oi om ne.
+                let y = arrives .oldest oi in
+                let r = rising-head (rw (y .1) at (h .rising i me oi om ne)) in
+                let u = h .used-acc i me oi om ne in
+                rw (← y .2) (omega arith))
+                (λ b a. h .used-acc a b) b a;
+            with-seat =
+                λ a o. receive-cases g me i p l
+                (λ a o s n k. InF F a → o < 16 → (o ≡ a → ⊥) → s .present ≡ true
+                → serves (s .proposal .members .bits) o ≡ true)
+                (λ om oi ne e. arrives .with-seat)
+                (λ a o. h .with-seat a o) a o;
+            own-kept =
+                λ a. receive-cases g me i p l
+                (λ a b s n k. b ≡ a → InF F a → s .present ≡ true → s .proposal .number ≤ g .num a)
+                (λ e. absurd (arrives .others e))
+                (λ a b e o. rw e (h .own-kept a o)) a a refl;
+            own-used = h .own-used;
+          }
 
-  module _ (g : Offices) (me : ℕ) (m : Mode) (p : Proposal) (t : ℕ) (h : Numbers F g) (om : InF F me) {kind : ℕ} (makes : Proposes g me kind p) where
+  module _ (g : Offices) (me : ℕ) (m : Mode) (p : Proposal) (t : ℕ) (h : Numbers F g) (om : InF F me) {kind : ℕ}
+      (makes : Proposes g me kind p) where
     abbrev said : Offices
     said = propose g me m p t
 
@@ -203,8 +213,12 @@ module _ (F : ℕ → Bool) where
     said-own a oa = go (ℕ-discrete a me)
       where
         go : Dec (a ≡ me) → said .stored a a .present ≡ true → said .stored a a .proposal .number ≤ said .num a
-        go (yes e) = rw (e, upd2-same (g .stored) me me (keeping p), upd-same (g .num) me (p .number)) (λ q. omega arith)
-        go (no n) = rw (upd2-other (g .stored) me me (keeping p) a a (λ e k. n e), upd-other (g .num) me (p .number) a n) (h .own-kept a oa)
+        go (yes e) = rw (e, upd2-same (g .stored) me me (keeping p), upd-same (g .num) me (p .number))
+            (λ q. omega arith)
+        go (no n) = rw (
+          upd2-other (g .stored) me me (keeping p) a a (λ e k. n e),
+          upd-other (g .num) me (p .number) a n,
+        ) (h .own-kept a oa)
 
     pub numbers-propose : Numbers F said
     unfolding propose
@@ -220,13 +234,16 @@ module _ (F : ℕ → Bool) where
               (mail-cases t p b (λ k. Every (λ x. usedFor (x .proposal) b ≤ said .num b) k) (more (said-used b ob ne) none) none))
               (λ a n. said-told a b) a;
           kept =
-              λ a b oa ob ne. said-stored g me m p t (λ s. s .present ≡ true → s .proposal .number ≡ g .acc b a) b a (λ e. ne (sym e)) (h .kept a b oa ob ne);
+              λ a b oa ob ne. said-stored g me m p t (λ s. s .present ≡ true → s .proposal .number ≡ g .acc b a) b a
+              (λ e. ne (sym e)) (h .kept a b oa ob ne);
           kept-used =
-              λ a b oa ob ne. said-stored g me m p t (λ s. s .present ≡ true → usedFor (s .proposal) b ≤ said .num b) b a (λ e. ne (sym e))
+              λ a b oa ob ne. said-stored g me m p t (λ s. s .present ≡ true → usedFor (s .proposal) b ≤ said .num b)
+              b a (λ e. ne (sym e))
               (λ e. let u = h .kept-used a b oa ob ne e in let n = said-num g me m p t makes b in omega arith);
           used-acc = h .used-acc;
           with-seat =
-              λ a o oa lt ne. said-stored g me m p t (λ s. s .present ≡ true → serves (s .proposal .members .bits) o ≡ true) a o (λ e. ne (sym e))
+              λ a o oa lt ne. said-stored g me m p t (λ s. s .present ≡ true
+              → serves (s .proposal .members .bits) o ≡ true) a o (λ e. ne (sym e))
               (h .with-seat a o oa lt ne);
           own-kept = said-own;
           own-used = λ a oa. let u = h .own-used a oa in let n = said-num g me m p t makes a in omega arith;
@@ -245,11 +262,13 @@ module _ (F : ℕ → Bool) where
           rising = h .rising;
           told = h .told;
           kept =
-              λ a b. conclude-cases g me t (λ b a s u. OfTwo a b (s .present ≡ true → s .proposal .number ≡ g .acc b a))
+              λ a b. conclude-cases g me t
+              (λ b a s u. OfTwo a b (s .present ≡ true → s .proposal .number ≡ g .acc b a))
               (λ a v oa ob ne e. absurd (true-false false e refl))
               (λ b a. h .kept a b) b a;
           kept-used =
-              λ a b. conclude-cases g me t (λ b a s u. OfTwo a b (s .present ≡ true → usedFor (s .proposal) b ≤ g .num b))
+              λ a b. conclude-cases g me t
+              (λ b a s u. OfTwo a b (s .present ≡ true → usedFor (s .proposal) b ≤ g .num b))
               (λ a v oa ob ne e. absurd (true-false false e refl))
               (λ b a. h .kept-used a b) b a;
           used-acc =
@@ -261,11 +280,13 @@ module _ (F : ℕ → Bool) where
               (λ b a. h .used-acc a b) b a;
           with-seat =
               λ a o. conclude-cases g me t
-              (λ a o s u. InF F a → o < 16 → (o ≡ a → ⊥) → s .present ≡ true → serves (s .proposal .members .bits) o ≡ true)
+              (λ a o s u. InF F a → o < 16 → (o ≡ a → ⊥) → s .present ≡ true
+              → serves (s .proposal .members .bits) o ≡ true)
               (λ o v oa lt ne e. absurd (true-false false e refl))
               (λ a o. h .with-seat a o) a o;
           own-kept =
-              λ a. conclude-cases g me t (λ a b s u. b ≡ a → InF F a → s .present ≡ true → s .proposal .number ≤ g .num a)
+              λ a. conclude-cases g me t (λ a b s u. b ≡ a → InF F a → s .present ≡ true
+              → s .proposal .number ≤ g .num a)
               (λ b v e o q. absurd (true-false false q refl))
               (λ a b e o. rw e (h .own-kept a o)) a a refl;
           own-used =

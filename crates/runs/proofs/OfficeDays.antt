@@ -14,7 +14,10 @@ use Rattle.rules.specs.Days.{given}
 use Rattle.runs.specs.Office.{Input, answerTo, LogEntry, stateAfter, logOf, Before, at-once, testedIn, CountedAt}
 
 abbrev joins : ℕ → Input
-joins x = record { event = aReport (record { joining = record { bits = x }; leaving = record { bits = 0 } }); room = 182 }
+joins x = record {
+  event = aReport (record { joining = record { bits = x }; leaving = record { bits = 0 } });
+  room = 182;
+}
 
 -- sixteen numbers, those of offices 0 and 1 first
 abbrev two : ℕ → ℕ → List ℕ
@@ -22,7 +25,14 @@ two a b = a ∷ b ∷ tab 14 (λ o. 0)
 
 abbrev made : ℕ → ℕ → ℕ → ℕ → List ℕ → Proposal
 made sender members start number used =
-    record { sender = sender; kind = fast; members = record { bits = members }; start = start; number = number; used = used }
+    record {
+      sender = sender;
+      kind = fast;
+      members = record { bits = members };
+      start = start;
+      number = number;
+      used = used;
+    }
 
 -- what is handed in: the seats 0 and 4 join, and the proposal of office 1 arrives
 abbrev fromOffice1 : Input
@@ -48,7 +58,13 @@ pub days-count : Before dayA dayC (logOf (fresh 0) threeDays) × CountedAt dayA 
 unfolding given runs answerTo logOf testedIn
 days-count = (
   at-once refl (List·Memᴰ·tail (List·Memᴰ·head refl)),
-  record { seen = viewA; sent = List·Memᴰ·tail (List·Memᴰ·head refl); office = omega arith; member = refl; stored = refl },
+  record {
+    seen = viewA;
+    sent = List·Memᴰ·tail (List·Memᴰ·head refl);
+    office = omega arith;
+    member = refl;
+    stored = refl;
+  },
   record { seen = viewC; sent = List·Memᴰ·head refl; office = omega arith; member = refl; stored = refl },
   record { seen = viewC; sent = List·Memᴰ·head refl; office = omega arith; member = refl; stored = refl },
 )

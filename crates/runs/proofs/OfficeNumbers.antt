@@ -1,5 +1,5 @@
--- The numbers of an office's stored proposals over a step: what is stored for an office stays, goes, or is replaced by a proposal with a
--- number above the last one known of that office.
+-- The numbers of an office's stored proposals over a step: what is stored for an office stays, goes, or is replaced
+-- by a proposal with a number above the last one known of that office.
 use mathlib.Core.Path.{_≡_, refl, ap, _∙_}
 use mathlib.Core.Bool.{Bool, true, false}
 use Prim.Native.Nat.{ℕ, _≤_, _<_}
@@ -54,8 +54,10 @@ renews-then {s} {t} {u} a b = record {
         newer (omega arith) (omega arith)
 
 -- the last number known, by the parts of a state
-last-is : {t : State} {own : ℕ} {mode : Mode} {net : ℕ} {stored : ℕ → Slot} {accepted : ℕ → ℕ} {view : View} {start number : ℕ} {used : ℕ → ℕ}
-    → Reads t own mode net stored accepted view start number used → (o : ℕ) → o < 16 → lastOf t o ≡ ifb (eqb o own) number (accepted o)
+last-is : {t : State} {own : ℕ} {mode : Mode} {net : ℕ} {stored : ℕ → Slot} {accepted : ℕ
+    → ℕ} {view : View} {start number : ℕ} {used : ℕ → ℕ}
+    → Reads t own mode net stored accepted view start number used → (o : ℕ) → o < 16
+    → lastOf t o ≡ ifb (eqb o own) number (accepted o)
 unfolding lastOf
 last-is {t} r o l = rw (r .own-is, r .number-is, r .accepted-is o l)
 
@@ -69,17 +71,20 @@ module _ (s : State) where
   renews-opened = record { own = refl; last = λ o l. le-refl _; slot = λ o l. same refl }
 
   -- one proposal is new, with a number above the last one known of its office
-  one-newer : (t : State) (i : ℕ) (p : Proposal) → t .own ≡ s .own → ((o : ℕ) → o < 16 → storedAt t o ≡ upd (storedAt s) i (keeping p) o)
+  one-newer : (t : State) (i : ℕ) (p : Proposal) → t .own ≡ s .own
+      → ((o : ℕ) → o < 16 → storedAt t o ≡ upd (storedAt s) i (keeping p) o)
       → ((o : ℕ) → o < 16 → lastOf t o ≡ upd (lastOf s) i (p .number) o) → lastOf s i < p .number → Renews s t
   one-newer t i p own st la h = record {
     own = own;
-    last = λ o l. rw (la o l) (upd-cases (λ (k n : ℕ). lastOf s k ≤ n) (lastOf s) i (p .number) o (le-of-lt h) (λ d. le-refl _));
+    last = λ o l. rw (la o l)
+        (upd-cases (λ (k n : ℕ). lastOf s k ≤ n) (lastOf s) i (p .number) o (le-of-lt h) (λ d. le-refl _));
     slot = λ o l. go o l (ℕ-discrete o i);
   }
     where
       go : (o : ℕ) → o < 16 → Dec (o ≡ i) → SlotAfter s t o
       go o l (yes e) =
-          let v = ap (λ (v : Slot). v .proposal .number) (st o l ∙ ap (upd (storedAt s) i (keeping p)) e ∙ upd-same (storedAt s) i (keeping p)) in
+          let v = ap (λ (v : Slot). v .proposal .number) (st o l ∙ ap (upd (storedAt s) i (keeping p)) e
+          ∙ upd-same (storedAt s) i (keeping p)) in
           let n = la o l ∙ ap (upd (lastOf s) i (p .number)) e ∙ upd-same (lastOf s) i (p .number) in
           let k = ap (lastOf s) e in
           newer (omega arith) (omega arith)
@@ -90,7 +95,8 @@ module _ (s : State) where
   unfolding ownProposal
   renews-proposed m n h =
       let r = proposed-reads s m n in
-      one-newer (proposed m n s) (s .own) (ownProposal m n s) (r .own-is) (r .stored-is) (λ o l. last-is r o l ∙ go o) (rw own-last h)
+      one-newer (proposed m n s) (s .own) (ownProposal m n s) (r .own-is) (r .stored-is) (λ o l. last-is r o l ∙ go o)
+      (rw own-last h)
     where
       own-last : lastOf s (s .own) ≡ s .number
       own-last = unfold lastOf in rw (eq-eqb (s .own) (s .own) refl)
@@ -103,17 +109,27 @@ module _ (s : State) where
           both false = refl
 
   -- a proposal of another office accepted: its number is above the last accepted
-  pub renews-received : (p : Proposal) → (p .sender ≡ s .own → ⊥) → acceptedAt s (p .sender) < p .number → Renews s (received s p)
+  pub renews-received : (p : Proposal) → (p .sender ≡ s .own → ⊥) → acceptedAt s (p .sender) < p .number
+      → Renews s (received s p)
   renews-received p d h =
       let r = received-reads s p in
-      one-newer (received s p) (p .sender) p (r .own-is) (r .stored-is) (λ o l. last-is r o l ∙ go o (ℕ-discrete o (p .sender))) (rw other-last h)
+      one-newer (received s p) (p .sender) p (r .own-is) (r .stored-is) (λ o l. last-is r o l
+      ∙ go o (ℕ-discrete o (p .sender))) (rw other-last h)
     where
       other-last : lastOf s (p .sender) ≡ acceptedAt s (p .sender)
       other-last = unfold lastOf in rw (ne-eqb (p .sender) (s .own) d)
 
-      go : (o : ℕ) → Dec (o ≡ p .sender) → ifb (eqb o (s .own)) (s .number) (upd (acceptedAt s) (p .sender) (p .number) o) ≡ upd (lastOf s) (p .sender) (p .number) o
-      go o (yes e) = rw (e, ne-eqb (p .sender) (s .own) d, upd-same (acceptedAt s) (p .sender) (p .number), upd-same (lastOf s) (p .sender) (p .number))
-      go o (no n) = unfold lastOf in rw (upd-other (acceptedAt s) (p .sender) (p .number) o n, upd-other (lastOf s) (p .sender) (p .number) o n)
+      go : (o : ℕ) → Dec (o ≡ p .sender)
+          → ifb (eqb o (s .own)) (s .number) (upd (acceptedAt s) (p .sender) (p .number) o) ≡ upd (lastOf s)
+          (p .sender) (p .number) o
+      go o (yes e) = rw (
+        e,
+        ne-eqb (p .sender) (s .own) d,
+        upd-same (acceptedAt s) (p .sender) (p .number),
+        upd-same (lastOf s) (p .sender) (p .number),
+      )
+      go o (no n) = unfold lastOf in
+          rw (upd-other (acceptedAt s) (p .sender) (p .number) o n, upd-other (lastOf s) (p .sender) (p .number) o n)
 
   -- a view: what it counted is gone
   pub renews-concluded : Renews s (concluded s)
@@ -122,6 +138,7 @@ module _ (s : State) where
       record {
         own = r .own-is;
         last = λ o l. unfold lastOf in rw (last-is r o l) (le-refl _);
-        slot = λ o l. if-cases (λ (v : Slot). storedAt (concluded s) o ≡ v → SlotAfter s (concluded s) o) (serves (s .net .bits) o) nothing (storedAt s o)
+        slot = λ o l. if-cases (λ (v : Slot). storedAt (concluded s) o ≡ v → SlotAfter s (concluded s) o)
+            (serves (s .net .bits) o) nothing (storedAt s o)
             (λ e q. empty (rw q)) (λ e q. same q) (r .stored-is o l);
       }

@@ -26,7 +26,9 @@ use Rattle.rule_laws.proofs.Written.{NoView, fast-every}
 use Rattle.rule_laws.proofs.Walk.{slowRound, concludes, Tested, staged-report, staged-proposal}
 use Rattle.runs.specs.Office.{Input, answerTo, nextState, LogEntry, answerOf, logOf, Before, testedIn, testedAt, CountedAt}
 use Rattle.runs.proofs.OfficeRuns.{log-keeps, before-first, before-second}
-use Rattle.runs.proofs.OfficeNumbers.{lastOf, SlotAfter, same, empty, newer, Renews, renews-none, renews-then, renews-net, renews-opened, renews-proposed, renews-received, renews-concluded}
+use Rattle.runs.proofs.OfficeNumbers.{lastOf, SlotAfter, same, empty, newer, Renews, renews-none, renews-then}
+use Rattle.runs.proofs.OfficeNumbers.{renews-net, renews-opened, renews-proposed, renews-received}
+use Rattle.runs.proofs.OfficeNumbers.{renews-concluded}
 
 -- the parts of an event before the agreement test write no view
 opens-no-view : (s : State) → Every NoView (opens s .written)
@@ -89,7 +91,8 @@ module _ (s u : State) (r : Renews s u) where
 
   x-renews : Renews s x
   unfolding slowTest
-  x-renews = renews-then r (if-cases (λ (o : Outcome). Renews u (o .state)) (slowCalled u) _ _ (λ e. slow-renews u) (λ e. renews-none u))
+  x-renews = renews-then r
+      (if-cases (λ (o : Outcome). Renews u (o .state)) (slowCalled u) _ _ (λ e. slow-renews u) (λ e. renews-none u))
 
   record Has (y : State) (o : Outcome) : Type 0 where
     is : o .state ≡ y
@@ -164,7 +167,8 @@ answer-ends s h = go (take-cases s (h .event) (h .room))
 
     go : Refused s (takeOf s (h .event) (h .room)) ⊎ Takes s (h .event) (h .room) → Ends (takeOf s (h .event) (h .room))
     go (inl r) = rw (r .is) (renews-none s, λ v m. absurd (List·Memᴰ·not-nil m))
-    go (inr a) = let x = event-ends s (h .event) (a .acts .passes) in rw (take-accepts s (h .event) (h .room) a) (x .renews, x .shows)
+    go (inr a) = let x = event-ends s (h .event) (a .acts .passes) in
+        rw (take-accepts s (h .event) (h .room) a) (x .renews, x .shows)
 
 -- no stored proposal has a number above the last one known of its office
 abbrev pub WithinLast : State → Type 0
@@ -188,7 +192,8 @@ record Past (n o : ℕ) (s : State) : Type 0 where
   above : storedAt s o .present ≡ true → n < inSlot s o .number
 
 past-renews : {n o : ℕ} {s t : State} → o < 16 → Renews s t → Past n o s → Past n o t
-past-renews {n} {o} {s} {t} l r h = record { known = le-trans (h .known) (r .last o l); above = λ p. go p (r .slot o l) }
+past-renews {n} {o} {s} {t} l r h =
+    record { known = le-trans (h .known) (r .last o l); above = λ p. go p (r .slot o l) }
   where
     go : storedAt t o .present ≡ true → SlotAfter s t o → n < inSlot t o .number
     go p (same e) =
@@ -209,7 +214,12 @@ module _ (e : LogEntry) (o : ℕ) (p : Proposal) (c : CountedAt e o p) where
 
   -- its number becomes the used number, its start number stands in the view, and it is stored no longer
   pub counted-used : usedAt (answerOf e .state) o ≡ p .number
-  counted-used = rw (counted-shown .state, concluded-reads (testedAt e) .used-is o (c .office), counted-member, c .stored)
+  counted-used = rw (
+    counted-shown .state,
+    concluded-reads (testedAt e) .used-is o (c .office),
+    counted-member,
+    c .stored,
+  )
 
   pub counted-start : getD (c .seen .starts) o 0 ≡ p .start
   unfolding viewOf startOf
@@ -236,16 +246,26 @@ module _ (e : LogEntry) (o : ℕ) (p : Proposal) (c : CountedAt e o p) where
       omega arith
 
 -- every view counts a proposal for every office of its members
-pub view-counts : (e : LogEntry) (v : View) → List·Memᴰ (view v) (answerOf e .written) → (o : ℕ) → o < 16 → serves (v .members .bits) o ≡ true
+pub view-counts : (e : LogEntry) (v : View) → List·Memᴰ (view v) (answerOf e .written) → (o : ℕ) → o < 16
+    → serves (v .members .bits) o ≡ true
     → (p : Proposal) × CountedAt e o p
 view-counts e v m o l h =
     let a = answer-ends (e .before) (e .handed) .1 v m in
     let x = testedAt e in
-    let b = agreed-out x (a .agrees) .every o l (unfold viewOf in rw (ap (λ (v : View). v .members .bits) (a .is)) at h) in
-    (inSlot x o, record { seen = v; sent = m; office = l; member = h; stored = ap (λ (t : Bool). record { present = t; proposal = inSlot x o }) (b .is-there) })
+    let b = agreed-out x (a .agrees) .every o l (unfold viewOf in
+    rw (ap (λ (v : View). v .members .bits) (a .is)) at h) in (
+      inSlot x o,
+      record {
+        seen = v;
+        sent = m;
+        office = l;
+        member = h;
+        stored = ap (λ (t : Bool). record { present = t; proposal = inSlot x o }) (b .is-there);
+      },
+    )
 
--- No proposal serves two views: of two views that an office sends in a run, the later one counts a proposal with a higher number for every
--- office that is in both.
+-- No proposal serves two views: of two views that an office sends in a run, the later one counts a proposal with a
+-- higher number for every office that is in both.
 pub counted-once : (s : State) → WithinLast s → (hs : List Input) (e f : LogEntry) → Before e f (logOf s hs)
     → (o : ℕ) (p q : Proposal) → CountedAt e o p → CountedAt f o q → p .number < q .number
 counted-once s k hs e f b o p q c d =
@@ -265,7 +285,8 @@ pub no-proposal-twice : (own : ℕ) (hs : List Input) (e f : LogEntry) → Befor
 no-proposal-twice own hs e f b o p q c d = counted-once (fresh own) (fresh-kept own) hs e f b o p q c d
 
 -- and an event sends no two
-pub one-view : (e : LogEntry) (v w : View) → List·Memᴰ (view v) (answerOf e .written) → List·Memᴰ (view w) (answerOf e .written) → v ≡ w
+pub one-view : (e : LogEntry) (v w : View) → List·Memᴰ (view v) (answerOf e .written)
+    → List·Memᴰ (view w) (answerOf e .written) → v ≡ w
 one-view e v w m n =
     let a = answer-ends (e .before) (e .handed) .1 in
     a v m .is ∙ sym (a w n .is)

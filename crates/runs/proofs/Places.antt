@@ -19,7 +19,8 @@ nth es n lt = let e = getD es n (loss 0 0 0) in (e, (lt, same-entry es n e (loss
 pub nth-same : (es : List WorldEvent) (n : ℕ) (a b : WorldEvent) → Nth es n a → Nth es n b → a ≡ b
 nth-same es n a b p q = sym (p .1) ∙ same-entry es n a b (p .0) ∙ q .1
 
-pub at-next : (w : World) (es : List WorldEvent) (n : ℕ) (e : WorldEvent) → Nth es n e → at w es (n + 1) ≡ next (at w es n) e
+pub at-next : (w : World) (es : List WorldEvent) (n : ℕ) (e : WorldEvent) → Nth es n e
+    → at w es (n + 1) ≡ next (at w es n) e
 unfolding runs
 at-next w es n e h =
     let a : take (n + 1) es ≡ take n es ++ (e ∷ []) = rw (add-one, take-suc es n e (h .0), h .1) in
@@ -46,7 +47,8 @@ clock-run w (e ∷ es) = let a = clock-run (next w e) es in let b = clock-next w
 clock-at : (w : World) (es : List WorldEvent) (n : ℕ) → w .clock ≡ 0 → n ≤ length es → at w es n .clock ≡ n
 clock-at w es n z h = let a = clock-run w (take n es) in let b = length-take-le n es h in omega arith
 
-pub clock-first : (states : ℕ → State) (links : ℕ → ℕ → List Item) (es : List WorldEvent) (n : ℕ) → n ≤ length es → at (atFirst states links) es n .clock ≡ n
+pub clock-first : (states : ℕ → State) (links : ℕ → ℕ → List Item) (es : List WorldEvent) (n : ℕ) → n ≤ length es
+    → at (atFirst states links) es n .clock ≡ n
 unfolding atFirst
 clock-first states links es n h = clock-at (atFirst states links) es n refl h
 

@@ -1,4 +1,5 @@
--- The proposals that an event makes, in every state of every office: who they name, what they tell, that they are well formed.
+-- The proposals that an event makes, in every state of every office: who they name, what they tell, that they are
+-- well formed.
 use mathlib.Core.Path.{_≡_, refl, sym, ap, _∙_}
 use mathlib.Core.Bool.{true, false}
 use mathlib.Core.Logic.{_⊎_, inl, inr}
@@ -18,13 +19,17 @@ use Rattle.records.specs.declared.Proposal.{Proposal}
 use Rattle.records.specs.declared.Notice.{Notice}
 use Rattle.records.specs.declared.View.{View}
 use Rattle.rules.specs.State.{Mode, None, Fast, Slow, State, fast, slow, kindOf, usedAt, usedFor}
-use Rattle.rules.specs.Rules.{Written, notice, proposal, view, Outcome, nothingWritten, andThen, hasRecipient, netAfter, repeats, seated, ownProposal, proposed, opens, slowNumber, nextNumber, proposesSlow, proposesFast, received, reportRule, proposalRule}
+use Rattle.rules.specs.Rules.{Written, notice, proposal, view, Outcome, nothingWritten, andThen, hasRecipient}
+use Rattle.rules.specs.Rules.{netAfter, repeats, seated, ownProposal, proposed, opens, slowNumber, nextNumber}
+use Rattle.rules.specs.Rules.{proposesSlow, proposesFast, received, reportRule, proposalRule}
 use Rattle.rules.specs.Refusals.{Event, aReport, aProposal, takeOf}
 use Rattle.rule_laws.proofs.Steps.{Refused, Takes, take-accepts, take-cases}
-use Rattle.rule_laws.proofs.Parts.{withNet-reads, opened-reads, proposed-reads, received-reads, concluded-reads, made-is, made-used}
+use Rattle.rule_laws.proofs.Parts.{withNet-reads, opened-reads, proposed-reads, received-reads, concluded-reads}
+use Rattle.rule_laws.proofs.Parts.{made-is, made-used}
 use Rattle.rule_laws.proofs.Repeats.{repeat-state, again-repeats}
 use Rattle.rule_laws.proofs.Tests.{slow-above, next-above}
-use Rattle.rule_laws.proofs.Walk.{arrived, concludes, ProposesFast, ProposesSlow, after-opening, in-round, Walk, Tested, staged-report, staged-proposal, walk-report, walk-proposal, walk-event}
+use Rattle.rule_laws.proofs.Walk.{arrived, concludes, ProposesFast, ProposesSlow, after-opening, in-round, Walk}
+use Rattle.rule_laws.proofs.Walk.{Tested, staged-report, staged-proposal, walk-report, walk-proposal, walk-event}
 
 -- P holds of a record if it is a proposal, and of each proposal written
 pub data IfProposal (P : Proposal → Type 0) : Written → Type 0 where
@@ -35,7 +40,8 @@ pub data IfProposal (P : Proposal → Type 0) : Written → Type 0 where
 abbrev pub EachProposal : (Proposal → Type 0) → List Written → Type 0
 EachProposal P = Every (IfProposal P)
 
-pub each-map : {P Q : Proposal → Type 0} {ws : List Written} → ((p : Proposal) → P p → Q p) → EachProposal P ws → EachProposal Q ws
+pub each-map : {P Q : Proposal → Type 0} {ws : List Written} → ((p : Proposal) → P p → Q p) → EachProposal P ws
+    → EachProposal Q ws
 each-map {P} {Q} f = every-map one
   where
     one : (w : Written) → IfProposal P w → IfProposal Q w
@@ -77,7 +83,8 @@ record MakesFirst (s : State) (o : Outcome) : Type 0 where
   makes : Makes s o
   same-used : (o' : ℕ) → o' < 16 → usedAt (o .state) o' ≡ usedAt s o'
 
-makes-then : (s : State) (o : Outcome) (f : State → Outcome) → MakesFirst s o → Makes (o .state) (f (o .state)) → Makes s (andThen o f)
+makes-then : (s : State) (o : Outcome) (f : State → Outcome) → MakesFirst s o → Makes (o .state) (f (o .state))
+    → Makes s (andThen o f)
 unfolding andThen
 makes-then s o f q b =
     let a = q .makes in
@@ -125,9 +132,11 @@ makes-then s o f q b =
           sixteen = m .sixteen;
         }
 
-first-then : (s : State) (o : Outcome) (f : State → Outcome) → MakesFirst s o → MakesFirst (o .state) (f (o .state)) → MakesFirst s (andThen o f)
+first-then : (s : State) (o : Outcome) (f : State → Outcome) → MakesFirst s o → MakesFirst (o .state) (f (o .state))
+    → MakesFirst s (andThen o f)
 unfolding andThen
-first-then s o f a b = record { makes = makes-then s o f a (b .makes); same-used = λ k lt. b .same-used k lt ∙ a .same-used k lt }
+first-then s o f a b =
+    record { makes = makes-then s o f a (b .makes); same-used = λ k lt. b .same-used k lt ∙ a .same-used k lt }
 
 module _ (s : State) where
   makes-none : MakesFirst s (nothingWritten s)
@@ -160,13 +169,21 @@ module _ (s : State) where
           sixteen = made-length m n;
         }
 
-    makes-propose : (ws : List Written) → EachProposal (MadeBetween s (proposed m n s)) ws → MakesFirst s (record { state = proposed m n s; written = ws })
+    makes-propose : (ws : List Written) → EachProposal (MadeBetween s (proposed m n s)) ws
+        → MakesFirst s (record { state = proposed m n s; written = ws })
     makes-propose ws e =
         let r = proposed-reads s m n in
         let a = r .start-is in
         let b = r .number-is in
         record {
-          makes = record { own = r .own-is; net = r .net-is; number = omega arith; start = omega arith; begun = λ h q. let g = given h in omega arith; sends = e };
+          makes = record {
+            own = r .own-is;
+            net = r .net-is;
+            number = omega arith;
+            start = omega arith;
+            begun = λ h q. let g = given h in omega arith;
+            sends = e;
+          };
           same-used = r .used-is;
         }
 
@@ -177,17 +194,26 @@ module _ (s : State) where
       let a = r .start-is in
       let b = r .number-is in
       record {
-        makes = record { own = r .own-is; net = r .net-is; number = omega arith; start = omega arith; begun = λ h q. omega arith; sends = more a-notice none };
+        makes = record {
+          own = r .own-is;
+          net = r .net-is;
+          number = omega arith;
+          start = omega arith;
+          begun = λ h q. omega arith;
+          sends = more a-notice none;
+        };
         same-used = r .used-is;
       }
 
   makes-fast : ProposesFast s → MakesFirst s (proposesFast s)
   unfolding proposesFast
   makes-fast q =
-      let given : Begun s → 1 ≤ s .start = λ h. rw (q .is) (let a = opened-reads (q .before) .start-is in omega arith) in
+      let given : Begun s → 1 ≤ s .start =
+      λ h. rw (q .is) (let a = opened-reads (q .before) .start-is in omega arith) in
       let busy : Fast ≡ None → ⊥ = λ e. let z : _≡_ {A = ℕ} 0 1 = cc in omega arith in
       makes-propose Fast (nextNumber s) busy (next-above s) given _
-      (if-cases (EachProposal (MadeBetween s (proposed Fast (nextNumber s) s))) (hasRecipient (ownProposal Fast (nextNumber s) s)) _ _
+      (if-cases (EachProposal (MadeBetween s (proposed Fast (nextNumber s) s)))
+      (hasRecipient (ownProposal Fast (nextNumber s) s)) _ _
       (λ e. more (a-proposal (made-between Fast (nextNumber s) busy (next-above s) given)) none)
       (λ e. none))
 
@@ -237,21 +263,30 @@ makes-proposal = walk-proposal making
 
 -- where nothing more is done: a report with no seat of its own, a proposal with other members than the net view
 nowhere : {P : Outcome → Type 0} → Tested (λ o. ⊥) (λ o. ⊥) P
-nowhere = record { called = λ o a. absurd a; uncalled = λ o a. absurd a; agrees = λ o a. absurd a; unagreed = λ o a. absurd a }
+nowhere = record {
+  called = λ o a. absurd a;
+  uncalled = λ o a. absurd a;
+  agrees = λ o a. absurd a;
+  unagreed = λ o a. absurd a;
+}
 
-pub unseated-report : (s : State) (r : Report) → seated (arrived s (aReport r)) ≡ false → reportRule s r ≡ nothingWritten (arrived s (aReport r))
+pub unseated-report : (s : State) (r : Report) → seated (arrived s (aReport r)) ≡ false
+    → reportRule s r ≡ nothingWritten (arrived s (aReport r))
 unseated-report s r e = staged-report {P = λ o. o ≡ nothingWritten (arrived s (aReport r))} nowhere s r
     (λ k. ap nothingWritten (sym (repeat-state s r k))) (λ k. refl) (λ k. absurd (true-false _ k e))
 
-pub other-members : (s : State) (p : Proposal) → (p .members .bits ≡ s .net .bits → ⊥) → proposalRule s p ≡ nothingWritten (received s p)
-other-members s p n = staged-proposal {P = λ o. o ≡ nothingWritten (received s p)} nowhere s p (λ k. refl) (λ e. absurd (n e))
+pub other-members : (s : State) (p : Proposal) → (p .members .bits ≡ s .net .bits → ⊥)
+    → proposalRule s p ≡ nothingWritten (received s p)
+other-members s p n =
+    staged-proposal {P = λ o. o ≡ nothingWritten (received s p)} nowhere s p (λ k. refl) (λ e. absurd (n e))
 
 -- the net view after a report is that of step 1, and after a proposal stays
 pub report-net : (s : State) (r : Report) → reportRule s r .state .net .bits ≡ netAfter (s .net .bits) r
 report-net s r = makes-report s r .net ∙ withNet-reads s (netAfter (s .net .bits) r) .net-is
 
 -- so the same report again is a repeat
-pub same-report-repeats : (s : State) (r : Report) → s .net .bits < 2 ^ 64 → FitsReport r → repeats (reportRule s r .state) r ≡ true
+pub same-report-repeats : (s : State) (r : Report) → s .net .bits < 2 ^ 64 → FitsReport r
+    → repeats (reportRule s r .state) r ≡ true
 same-report-repeats s r l f = again-repeats (reportRule s r .state) (s .net .bits) r l f (report-net s r)
 
 pub proposal-net : (s : State) (p : Proposal) → proposalRule s p .state .net .bits ≡ s .net .bits

@@ -32,7 +32,8 @@ use Rattle.runs.proofs.WorldArrays.{Good, Seen, SeenAll, GoodAnswer, Sa
 
 module _ (F : ℕ → Bool) where
   -- a report at an office of F
-  module _ (w : World) (g : Offices) (me : ℕ) (rep : Report) (room : ℕ) (seen : SeenAll F w g) (numbers : Numbers F g) (q : InF F me)
+  module _ (w : World) (g : Offices) (me : ℕ) (rep : Report) (room : ℕ) (seen : SeenAll F w g) (numbers : Numbers F g)
+      (q : InF F me)
       (among : Among (report me rep room)) where
     abbrev mine : State
     mine = w .state me
@@ -51,13 +52,15 @@ module _ (F : ℕ → Bool) where
 
     -- the office stays as it is and writes nothing
     unmoved : SeenAll F (answered w me (accepted (nothingWritten mine))) g
-    unmoved = seen-moved F w g g me (nothingWritten mine) (seen-but F w g me seen) ans q (moved-none (w .clock) me g mine sim)
+    unmoved = seen-moved F w g g me (nothingWritten mine) (seen-but F w g me seen) ans q
+        (moved-none (w .clock) me g mine sim)
       where
         ans : GoodAnswer F me (nothingWritten mine)
         ans = record { is-good = good; own = sim .own; sends = none; below = none; names = none }
 
     -- refused: nothing happens
-    refused-acts : Refused mine (takeOf mine (aReport rep) room) → Barred (takeOf mine (aReport rep) room) → Acted (reportAnswer w me rep room)
+    refused-acts : Refused mine (takeOf mine (aReport rep) room) → Barred (takeOf mine (aReport rep) room)
+        → Acted (reportAnswer w me rep room)
     unfolding reportAnswer answered
     refused-acts r b = (g, refuses q b, subst (λ (z : Result). SeenAll F (answered w me z) g) (sym (r .is)) unmoved)
 
@@ -99,7 +102,8 @@ module _ (F : ℕ → Bool) where
     sim-turned = sim-renet mine g me sim made-net
 
     within : (k : ℕ) → k < 16 → usedAt turned k ≤ limit
-    within k lt = let a = withNet-reads mine made-net .used-is k lt in let b = well-facts mine (good .passes) .used k lt in omega arith
+    within k lt = let a = withNet-reads mine made-net .used-is k lt in
+        let b = well-facts mine (good .passes) .used k lt in omega arith
 
     behind : usedAt turned me ≤ turned .number
     behind =
@@ -129,7 +133,11 @@ module _ (F : ℕ → Bool) where
 
           ans : GoodAnswer F me (reportRule mine rep)
           ans = record {
-            is-good = record { passes = passes; net = rw (makes .net, turned-net) net-below; begun = makes .begun turned-begun };
+            is-good = record {
+              passes = passes;
+              net = rw (makes .net, turned-net) net-below;
+              begun = makes .begun turned-begun;
+            };
             own = makes .own ∙ turned-own;
             sends = valid;
             below = each-map (made-below turned (reportRule mine rep .state) me (q .0) behind) (makes .sends);
@@ -150,8 +158,10 @@ module _ (F : ℕ → Bool) where
       unseated c e =
           let r = unseated-report mine rep e in (
             renet g me made-net,
-            leaves made-net q (changed c) (ap (λ (x : ℕ). serves x me) (sym turned-net) ∙ ap (serves (turned .net .bits)) (sym turned-own) ∙ e),
-            ends (renet g me made-net) (rw r (moved-none (w .clock) me (renet g me made-net) turned sim-turned)) (rw r none),
+            leaves made-net q (changed c) (ap (λ (x : ℕ). serves x me) (sym turned-net)
+                ∙ ap (serves (turned .net .bits)) (sym turned-own) ∙ e),
+            ends (renet g me made-net) (rw r (moved-none (w .clock) me (renet g me made-net) turned sim-turned))
+                (rw r none),
           )
 
       -- a fast proposal and the tests
@@ -159,15 +169,21 @@ module _ (F : ℕ → Bool) where
       unfolding seated
       opened-up c e =
           let f = fast-moves (w .clock) me turned (renet g me made-net) sim-turned in
-          let t = staged-report (moving (w .clock) me (renet g me made-net) _) mine rep (λ k. absurd (true-false _ k c)) (λ n. absurd (true-false _ e n)) (λ _. f .1) in
+          let t = staged-report (moving (w .clock) me (renet g me made-net) _) mine rep
+          (λ k. absurd (true-false _ k c)) (λ n. absurd (true-false _ e n)) (λ _. f .1) in
           let seat : serves (turned .net .bits) me ≡ true = ap (serves (turned .net .bits)) (sym turned-own) ∙ e in
-          let valid = made-valid turned (reportRule mine rep .state) me turned-own (q .0) (rw turned-net net-below) seat within (well-facts _ passes) turned-begun in
-          (t .0, reports made-net _ q (changed c) (f .0) (t .1), ends (t .0) (t .2) (each-map valid (makes-report mine rep .sends)))
+          let valid = made-valid turned (reportRule mine rep .state) me turned-own (q .0) (rw turned-net net-below)
+          seat within (well-facts _ passes) turned-begun in (
+            t .0,
+            reports made-net _ q (changed c) (f .0) (t .1),
+            ends (t .0) (t .2) (each-map valid (makes-report mine rep .sends)),
+          )
 
       accepted-acts : Acted (reportAnswer w me rep room)
       accepted-acts = rw answer (go (repeats mine rep) refl (seated turned) refl)
         where
-          go : (u : Bool) → repeats mine rep ≡ u → (t : Bool) → seated turned ≡ t → Acted (accepted (reportRule mine rep))
+          go : (u : Bool) → repeats mine rep ≡ u → (t : Bool) → seated turned ≡ t
+              → Acted (accepted (reportRule mine rep))
           go true c t e = again c
           go false c true e = opened-up c e
           go false c false e = unseated c e
@@ -175,6 +191,8 @@ module _ (F : ℕ → Bool) where
     pub report-acts : Acted (reportAnswer w me rep room)
     report-acts = go (accepted-or-barred mine (aReport rep) room (good .passes) refl)
       where
-        go : Takes mine (aReport rep) room ⊎ (Refused mine (takeOf mine (aReport rep) room) × Barred (takeOf mine (aReport rep) room)) → Acted (reportAnswer w me rep room)
+        go : Takes mine (aReport rep) room
+            ⊎ (Refused mine (takeOf mine (aReport rep) room) × Barred (takeOf mine (aReport rep) room))
+            → Acted (reportAnswer w me rep room)
         go (inl a) = accepted-acts a
         go (inr r) = refused-acts (r .0) (r .1)

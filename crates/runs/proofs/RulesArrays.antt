@@ -29,8 +29,10 @@ ifb-same false x y e = refl
 pub view-ext : (x : ℕ) (f h : ℕ → ℕ) → ((o : ℕ) → o < 16 → serves x o ≡ true → f o ≡ h o) → viewWith x f ≡ viewWith x h
 unfolding viewWith
 view-ext x f h e =
-    let a = largest-ext 16 (λ o. ifb (serves x o) (f o) 0) (λ o. ifb (serves x o) (h o) 0) (λ o l. ifb-same (serves x o) (f o) (h o) (e o l)) in
-    let b = tab-ext 16 (λ o. ifb (serves x o) (f o) 0) (λ o. ifb (serves x o) (h o) 0) (λ o l. ifb-same (serves x o) (f o) (h o) (e o l)) in
+    let a = largest-ext 16 (λ o. ifb (serves x o) (f o) 0) (λ o. ifb (serves x o) (h o) 0)
+    (λ o l. ifb-same (serves x o) (f o) (h o) (e o l)) in
+    let b = tab-ext 16 (λ o. ifb (serves x o) (f o) 0) (λ o. ifb (serves x o) (h o) 0)
+    (λ o l. ifb-same (serves x o) (f o) (h o) (e o l)) in
     rw (a, b)
 
 -- what an answer sends, part by part
@@ -95,7 +97,8 @@ same-trans a b = record {
   shown = b .shown ∙ a .shown;
 }
 
-same-propose : (g : Offices) (me : ℕ) (m : Mode) (p : Proposal) (t i : ℕ) → (i ≡ me → ⊥) → Same g (propose g me m p t) i
+same-propose : (g : Offices) (me : ℕ) (m : Mode) (p : Proposal) (t i : ℕ) → (i ≡ me → ⊥)
+    → Same g (propose g me m p t) i
 unfolding propose
 same-propose g me m p t i n = record {
   num = upd-other (g .num) me _ i n;
@@ -136,7 +139,8 @@ moved-none t me g s h = record {
   elsewhere = λ i n. same-refl g i;
 }
 
-pub moved-then : (t me : ℕ) (g h k : Offices) (o : Outcome) (f : State → Outcome) → Moved t me g o h → Moved t me h (f (o .state)) k
+pub moved-then : (t me : ℕ) (g h k : Offices) (o : Outcome) (f : State → Outcome) → Moved t me g o h
+    → Moved t me h (f (o .state)) k
     → Moved t me g (andThen o f) k
 unfolding andThen
 moved-then t me g h k o f a b = record {
@@ -154,7 +158,11 @@ module _ (t me : ℕ) (s : State) (g : Offices) (h : Sim s g me) where
   to-match o lt m =
       let e = sym (h .stored o lt) in (
         (λ q. m .another (q ∙ sym (h .own))),
-        (ap (λ (v : Slot). v .present) e ∙ m .is-there, ap (λ (v : Slot). v .proposal .members .bits) e ∙ m .same-members ∙ h .net),
+        (
+          ap (λ (v : Slot). v .present) e ∙ m .is-there,
+          ap (λ (v : Slot). v .proposal .members .bits) e
+              ∙ m .same-members ∙ h .net,
+        ),
       )
 
   from-match : (o : ℕ) → o < 16 → (o ≡ me → ⊥) → Match g me o → Matching s o
@@ -173,7 +181,8 @@ module _ (t me : ℕ) (s : State) (g : Offices) (h : Sim s g me) where
   number-is o lt = ap (λ (v : Slot). v .proposal .number) (h .stored o lt)
 
   used-is : (o : ℕ) → o < 16 → usedFor (inSlot s o) (s .own) ≡ usedFor (other g me o) me
-  used-is o lt = ap (λ (v : Slot). usedFor (v .proposal) (s .own)) (h .stored o lt) ∙ ap (usedFor (other g me o)) (h .own)
+  used-is o lt = ap (λ (v : Slot). usedFor (v .proposal) (s .own)) (h .stored o lt)
+      ∙ ap (usedFor (other g me o)) (h .own)
 
   to-joinable : (o : ℕ) → o < 16 → Above s o → Joinable g me o
   to-joinable o lt a =
@@ -192,9 +201,12 @@ module _ (t me : ℕ) (s : State) (g : Offices) (h : Sim s g me) where
 
   to-calls : Cause s → Calls g me
   to-calls (in-none e) = off.Calls.in-none (sym (h .mode) ∙ e)
-  to-calls (heard-slow e o lt m k) = let w = to-match o lt m in off.Calls.heard-slow (sym (h .mode) ∙ e) o lt (w .0) (w .1) (sym (kind-is o lt) ∙ k)
-  to-calls (is-used o lt m e) = let w = to-match o lt m in off.Calls.is-used o lt (w .0) (w .1) (sym (used-is o lt) ∙ e ∙ h .num)
-  to-calls (above-own e o lt a) = let j = to-joinable o lt a in off.Calls.above-own (sym (h .mode) ∙ e) o lt (j .1) (j .2) (j .3) (j .4)
+  to-calls (heard-slow e o lt m k) = let w = to-match o lt m in
+      off.Calls.heard-slow (sym (h .mode) ∙ e) o lt (w .0) (w .1) (sym (kind-is o lt) ∙ k)
+  to-calls (is-used o lt m e) = let w = to-match o lt m in
+      off.Calls.is-used o lt (w .0) (w .1) (sym (used-is o lt) ∙ e ∙ h .num)
+  to-calls (above-own e o lt a) = let j = to-joinable o lt a in
+      off.Calls.above-own (sym (h .mode) ∙ e) o lt (j .1) (j .2) (j .3) (j .4)
 
   to-silent : NotCalled s → Silent g me
   to-silent c = record {
@@ -224,7 +236,11 @@ module _ (t me : ℕ) (s : State) (g : Offices) (h : Sim s g me) where
       one : (o : ℕ) → o < 16 → Agreeing s o → Agrees g me o
       one o lt q =
           let e = sym (h .stored o lt) in (
-            (ap (λ (v : Slot). v .present) e ∙ q .is-there, ap (λ (v : Slot). v .proposal .members .bits) e ∙ q .same-members ∙ h .net),
+            (
+              ap (λ (v : Slot). v .present) e ∙ q .is-there,
+              ap (λ (v : Slot). v .proposal .members .bits) e
+                  ∙ q .same-members ∙ h .net,
+            ),
             sym (kind-is o lt) ∙ q .of-kind ∙ ap kindOf (h .mode),
             λ m. sym (number-is o lt) ∙ q .own-number (h .mode ∙ m) ∙ h .num,
           )
@@ -274,7 +290,8 @@ module _ (t me : ℕ) (s : State) (g : Offices) (h : Sim s g me) where
   view-same : viewOf s ≡ viewWith (g .net me) (λ o. g .stored me o .proposal .start)
   unfolding viewOf startOf viewWith
   view-same = view-ext (s .net .bits) (λ o. inSlot s o .start) (λ o. g .stored me o .proposal .start)
-      (λ o lt v. ap (λ (v : Slot). v .proposal .start) (h .stored o lt)) ∙ ap (λ (x : ℕ). viewWith x (λ o. g .stored me o .proposal .start)) (h .net)
+      (λ o lt v. ap (λ (v : Slot). v .proposal .start) (h .stored o lt))
+      ∙ ap (λ (x : ℕ). viewWith x (λ o. g .stored me o .proposal .start)) (h .net)
 
   moved-conclude : Moved t me g (record { state = concluded s; written = view (viewOf s) ∷ [] }) (conclude g me t)
   unfolding conclude
@@ -309,12 +326,14 @@ module _ (t me : ℕ) where
   slow-called : (s u : State) (g : Offices) → Sim s g me → Sim u g me → slowCalled s ≡ true
       → SlowTest t me g (propose g me Slow (ownProposal Slow (slowNumber u) u) t)
   slow-called s u g h k e =
-      off.SlowTest.called (ownProposal Slow (slowNumber u) u) (to-calls t me s g h (called-out s e)) (to-proposes t me u g k Slow (slowNumber u) (slow-above u))
+      off.SlowTest.called (ownProposal Slow (slowNumber u) u) (to-calls t me s g h (called-out s e))
+      (to-proposes t me u g k Slow (slowNumber u) (slow-above u))
       (rw (made-is u Slow (slowNumber u) .4) (to-chosen t me u g k (slowNumber u) (slow-number u)))
 
   -- The two tests, from outcomes so far that moved the arrays g to h: the arrays that they leave.
   pub moving : (g h : Offices)
-      → Tested (λ o. Moved t me g o h) (λ o. (k : Offices) × SlowTest t me h k × Moved t me g o k) (λ o. (k : Offices) × Tests t me h k × Moved t me g o k)
+      → Tested (λ o. Moved t me g o h) (λ o. (k : Offices) × SlowTest t me h k × Moved t me g o k) (λ o. (k : Offices)
+      × Tests t me h k × Moved t me g o k)
   moving g h = record {
     called = λ o m e.
         let s = o .state in
@@ -326,12 +345,18 @@ module _ (t me : ℕ) where
           moved-then t me g h (p .0) o slowRound m
               (moved-then t me h h (p .0) (beginsIn (s .mode) s) proposesSlow (b .1) (p .2)),
         );
-    uncalled = λ o m e. (h, off.SlowTest.not-called (to-silent t me (o .state) h (m .sim) (not-called (o .state) e)), m);
+    uncalled = λ o m e. (
+      h,
+      off.SlowTest.not-called (to-silent t me (o .state) h (m .sim) (not-called (o .state) e)),
+      m,
+    );
     agrees = λ o b e.
         let m = b .2 in (
           conclude (b .0) me t,
-          off.Tests.both (b .1) (off.AgreementTest.agreed (to-agreed t me (o .state) (b .0) (m .sim) (agreed-out (o .state) e))),
-          moved-then t me g (b .0) (conclude (b .0) me t) o concludes m (moved-conclude t me (o .state) (b .0) (m .sim)),
+          off.Tests.both (b .1)
+              (off.AgreementTest.agreed (to-agreed t me (o .state) (b .0) (m .sim) (agreed-out (o .state) e))),
+          moved-then t me g (b .0) (conclude (b .0) me t) o concludes m
+              (moved-conclude t me (o .state) (b .0) (m .sim)),
         );
     unagreed = λ o b e. (
       b .0,
@@ -343,7 +368,9 @@ module _ (t me : ℕ) where
 
   -- where a fast proposal has no recipient, no link gets it
   fast-mail : (p : Proposal) (j : ℕ) → j < 16 → mail t j (ifb (hasRecipient p) (proposal p ∷ []) []) ≡ mailTo t p j
-  fast-mail p j lt = if-cases (λ (ws : List Written). mail t j ws ≡ mailTo t p j) (hasRecipient p) _ _ (λ e. mail-one t j p) (λ e. nobody e)
+  fast-mail p j lt =
+      if-cases (λ (ws : List Written). mail t j ws ≡ mailTo t p j) (hasRecipient p) _ _ (λ e. mail-one t j p)
+      (λ e. nobody e)
     where
       nobody : hasRecipient p ≡ false → [] ≡ mailTo t p j
       nobody e = let n = anyb-none 16 (receives p) e j lt in rw n at (mail-one t j p)

@@ -1,5 +1,5 @@
--- Every run whose offices of F begin fresh: at each place arrays show the world and satisfy the invariants of the numbers. Two
--- consequences, whatever is lost or refused.
+-- Every run whose offices of F begin fresh: at each place arrays show the world and satisfy the invariants of the
+-- numbers. Two consequences, whatever is lost or refused.
 use mathlib.Core.Path.{sym, subst}
 use mathlib.Core.Bool.{Bool}
 use mathlib.Core.List.{List}
@@ -37,7 +37,8 @@ module _ (F : ℕ → Bool) (states : ℕ → State) (links : ℕ → ℕ → Li
 
   -- what the events keep of the arrays, from one place to a later one
   module _ (I : ℕ → Offices → Type 0)
-      (keeps : (n : ℕ) (e : WorldEvent) → Nth es n e → (g h : Offices) → SeenAll F (world n) g → Numbers F g → I n g → Happens F (world n) e g h
+      (keeps : (n : ℕ) (e : WorldEvent) → Nth es n e → (g h : Offices) → SeenAll F (world n) g → Numbers F g → I n g
+      → Happens F (world n) e g h
       → SeenAll F (world (n + 1)) h → I (n + 1) h) where
     pub shown-along : (n m : ℕ) → n ≤ m → m ≤ length es → Shown I n → Shown I m
     shown-along n m h l = λ s. along (Shown I) es n m h l s one
@@ -59,11 +60,13 @@ module _ (F : ℕ → Bool) (states : ℕ → State) (links : ℕ → ℕ → Li
   any-time = shown-at Whatever (λ n e k g h s c i a t. omega arith) (omega arith)
 
   -- the numbers of the proposals on a link from an office of F rise strictly
-  pub rows-rise : (n : ℕ) → n ≤ length es → (i j : ℕ) → FromF F i j → Rising 0 (world n .state i .number) (world n .link i j)
+  pub rows-rise : (n : ℕ) → n ≤ length es → (i j : ℕ) → FromF F i j
+      → Rising 0 (world n .state i .number) (world n .link i j)
   rows-rise n l i j f =
       let s = any-time n l in
       rw (s .1 .links i j f, s .1 .sim i (f .0) (below-sixteen F (f .0 .0)) .num) (s .2 .rows i j f)
 
   -- a proposal that an office of F has sent has a used number for that office below its own number
-  pub used-below : (n : ℕ) → n ≤ length es → (i : ℕ) → InF F i → (p : Proposal) → HasSent (world n) i p → usedFor p i < p .number
+  pub used-below : (n : ℕ) → n ≤ length es → (i : ℕ) → InF F i → (p : Proposal) → HasSent (world n) i p
+      → usedFor p i < p .number
   used-below n l i a = any-time n l .1 .below i a

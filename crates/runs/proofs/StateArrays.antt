@@ -8,7 +8,8 @@ use Rattle.seats.specs.Offices.{serves}
 use Rattle.records.specs.declared.Proposal.{Proposal}
 use Rattle.rules.specs.State.{Mode, None, State, nothing, keeping, storedAt, acceptedAt, usedAt, numberIn}
 use Rattle.rules.specs.Rules.{withNet, opened, ownProposal, proposed, received, concluded}
-use Rattle.rule_laws.proofs.Parts.{withNet-reads, opened-reads, proposed-reads, received-reads, concluded-reads, made-is}
+use Rattle.rule_laws.proofs.Parts.{withNet-reads, opened-reads, proposed-reads, received-reads, concluded-reads}
+use Rattle.rule_laws.proofs.Parts.{made-is}
 use Rattle.runs.specs.World.{Item}
 use Rattle.laws.proofs.Grid.{row-same}
 use Rattle.runs.proofs.Arrays.{Offices, renet, propose, receive, conclude}
@@ -52,7 +53,8 @@ module _ (s : State) (g : Offices) (me : ℕ) (h : Sim s g me) where
       }
 
   -- an entry of the own row, changed at the place of office i
-  row : {A : Type 0} (f : ℕ → A) (r : ℕ → ℕ → A) (i : ℕ) (v : A) (o : ℕ) → f o ≡ r me o → upd f i v o ≡ upd2 r me i v me o
+  row : {A : Type 0} (f : ℕ → A) (r : ℕ → ℕ → A) (i : ℕ) (v : A) (o : ℕ) → f o ≡ r me o
+      → upd f i v o ≡ upd2 r me i v me o
   row f r i v o e = upd-agree f (r me) i v o e ∙ sym (row-same r me (upd (r me) i v) o)
 
   pub sim-propose : (m : Mode) (n t : ℕ) → Sim (proposed m n s) (propose g me m (ownProposal m n s) t) me
@@ -98,12 +100,15 @@ module _ (s : State) (g : Offices) (me : ℕ) (h : Sim s g me) where
             ∙ sym (ap (λ f. f o) (upd-same (g .stored) me (λ o. ifb (serves (g .net me) o) nothing (g .stored me o))));
         acc = λ o lt. r .accepted-is o lt ∙ h .acc o lt;
         used = λ o lt. r .used-is o lt ∙ used-agree o lt
-            ∙ sym (ap (λ f. f o) (upd-same (g .used) me (λ o. ifb (serves (g .net me) o) (numberIn (g .stored me o)) (g .used me o))));
+            ∙ sym (ap (λ f. f o)
+            (upd-same (g .used) me (λ o. ifb (serves (g .net me) o) (numberIn (g .stored me o)) (g .used me o))));
       }
     where
-      stored-agree : (o : ℕ) → o < 16 → ifb (serves (s .net .bits) o) nothing (storedAt s o) ≡ ifb (serves (g .net me) o) nothing (g .stored me o)
+      stored-agree : (o : ℕ) → o < 16
+          → ifb (serves (s .net .bits) o) nothing (storedAt s o) ≡ ifb (serves (g .net me) o) nothing (g .stored me o)
       stored-agree o lt = rw (h .net, h .stored o lt)
 
       used-agree : (o : ℕ) → o < 16
-          → ifb (serves (s .net .bits) o) (numberIn (storedAt s o)) (usedAt s o) ≡ ifb (serves (g .net me) o) (numberIn (g .stored me o)) (g .used me o)
+          → ifb (serves (s .net .bits) o) (numberIn (storedAt s o)) (usedAt s o) ≡ ifb (serves (g .net me) o)
+          (numberIn (g .stored me o)) (g .used me o)
       used-agree o lt = rw (h .net, h .stored o lt, h .used o lt)

@@ -30,14 +30,16 @@ pub record Valid (i j : ℕ) (p : Proposal) : Type 0 where
   pub fits : FitsProposal p
 
 -- where the own used number is not above the own number, that of a proposal made is below its number
-pub made-below : (s u : State) (me : ℕ) → me < 16 → usedAt s me ≤ s .number → (p : Proposal) → MadeBetween s u p → usedFor p me < p .number
+pub made-below : (s u : State) (me : ℕ) → me < 16 → usedAt s me ≤ s .number → (p : Proposal) → MadeBetween s u p
+    → usedFor p me < p .number
 made-below s u me lt le p m =
     let a = m .number in
     let b = if-le (serves (s .net .bits) me) (usedAt s me) 0 (s .number) le (omega arith) in
     rw (m .used me lt) (omega arith)
 
 -- a proposal made in a good state is valid for whoever receives it
-module _ (s u : State) (me : ℕ) (own : s .own ≡ me) (lt : me < 16) (net : s .net .bits < 2 ^ 64) (seat : serves (s .net .bits) me ≡ true)
+module _ (s u : State) (me : ℕ) (own : s .own ≡ me) (lt : me < 16) (net : s .net .bits < 2 ^ 64)
+    (seat : serves (s .net .bits) me ≡ true)
     (within : (o : ℕ) → o < 16 → usedAt s o ≤ limit) (wf : WellFormed u) (begun : Begun s) where
   pub made-valid : (p : Proposal) → MadeBetween s u p → (j : ℕ) → receives p j ≡ true → Valid me j p
   unfolding receives
@@ -67,7 +69,8 @@ module _ (s u : State) (me : ℕ) (own : s .own ≡ me) (lt : me < 16) (net : s 
       }
     where
       used-within : (o : ℕ) → o < 16 → usedFor p o ≤ limit
-      used-within o l = rw (m .used o l) (if-le (serves (s .net .bits) o) (usedAt s o) 0 limit (within o l) (omega arith))
+      used-within o l =
+          rw (m .used o l) (if-le (serves (s .net .bits) o) (usedAt s o) 0 limit (within o l) (omega arith))
 
       small : (p .kind ≡ fast) ⊎ (p .kind ≡ slow) → p .kind < 256
       small (inl e) = omega arith

@@ -52,21 +52,26 @@ mail-stamped t j (proposal p ∷ ws) =
 abbrev Entry : Proposal → ℕ → SentRecord
 Entry p c = record { what = proposal p; clock = c }
 
-in-rest : {P : Type 0} {x y : SentRecord} {l : List SentRecord} → (x ≡ y → P) → P ⊎ List·Memᴰ x (y ∷ l) → P ⊎ List·Memᴰ x l
+in-rest : {P : Type 0} {x y : SentRecord} {l : List SentRecord} → (x ≡ y → P) → P ⊎ List·Memᴰ x (y ∷ l)
+    → P ⊎ List·Memᴰ x l
 in-rest f (inl q) = inl q
 in-rest f (inr m) = ⊎-elim (λ e. inl (f e)) (λ k. inr k) (List·Memᴰ·cases-cons m)
 
-in-log : {P : Proposal → Type 0} {p : Proposal} {c : ℕ} (t : ℕ) (ws : List Written) (l : List SentRecord) → EachProposal P ws
+in-log : {P : Proposal → Type 0} {p : Proposal} {c : ℕ} (t : ℕ) (ws : List Written) (l : List SentRecord)
+    → EachProposal P ws
     → List·Memᴰ (Entry p c) (logged t ws l) → P p ⊎ List·Memᴰ (Entry p c) l
 in-log t [] l none h = inr h
 in-log {P} {p} {c} t (notice n ∷ ws) l (more a-notice e) h =
-    in-rest (λ q. let k : proposal p ≡ notice n = ap (λ (x : SentRecord). x .what) q in let z : _≡_ {A = ℕ} 0 1 = cc in absurd (omega arith))
+    in-rest (λ q. let k : proposal p ≡ notice n = ap (λ (x : SentRecord). x .what) q in
+    let z : _≡_ {A = ℕ} 0 1 = cc in absurd (omega arith))
     (in-log t ws (record { what = notice n; clock = t } ∷ l) e h)
 in-log {P} {p} {c} t (view v ∷ ws) l (more a-view e) h =
-    in-rest (λ q. let k : proposal p ≡ view v = ap (λ (x : SentRecord). x .what) q in let z : _≡_ {A = ℕ} 0 1 = cc in absurd (omega arith))
+    in-rest (λ q. let k : proposal p ≡ view v = ap (λ (x : SentRecord). x .what) q in let z : _≡_ {A = ℕ} 0 1 = cc in
+    absurd (omega arith))
     (in-log t ws (record { what = view v; clock = t } ∷ l) e h)
 in-log {P} {p} {c} t (proposal r ∷ ws) l (more (a-proposal y) e) h =
-    in-rest (λ q. let k : proposal p ≡ proposal r = ap (λ (x : SentRecord). x .what) q in let z : r ≡ p = cc in subst P z y)
+    in-rest (λ q. let k : proposal p ≡ proposal r = ap (λ (x : SentRecord). x .what) q in let z : r ≡ p = cc in
+    subst P z y)
     (in-log t ws (Entry r t ∷ l) e h)
 
 module _ (F : ℕ → Bool) where
@@ -138,11 +143,13 @@ module _ (F : ℕ → Bool) where
         → EachProposal (λ p. receives p j ≡ true → Valid me j p) (o .written)
     each-to j e = each-map (λ p h. h j) e
 
-    row-all : (P : ℕ → ℕ → Item → Type 0) (i j : ℕ) → Every (P i j) (w .link i j) → Every (P me j) (mail (w .clock) j (o .written))
+    row-all : (P : ℕ → ℕ → Item → Type 0) (i j : ℕ) → Every (P i j) (w .link i j)
+        → Every (P me j) (mail (w .clock) j (o .written))
         → Every (P i j) (answered w me (accepted o) .link i j)
     unfolding answered
     row-all P i j old new =
-        upd-cases (λ (i : ℕ) (f : ℕ → List Item). (i ≡ me → Every (P me j) (w .link me j)) → (Every (P i j) (w .link i j)) → Every (P i j) (f j)) (w .link) me _ i
+        upd-cases (λ (i : ℕ) (f : ℕ → List Item). (i ≡ me → Every (P me j) (w .link me j))
+        → (Every (P i j) (w .link i j)) → Every (P i j) (f j)) (w .link) me _ i
         (λ q r. every-append (q refl) new) (λ n q r. r) (λ e. rw e at old) old
 
     -- an answer of an office of A, with the arrays that it moved
@@ -151,19 +158,25 @@ module _ (F : ℕ → Bool) where
     seen-moved q m = record {
       sim = λ i b n. upd-cases (λ (i : ℕ) (s : State). InF F i → Sim s k i) (w .state) me (o .state) i (λ b. m .sim)
           (λ n b. sim-kept (w .state i) g k i (same-kept (m .elsewhere i n)) (s .sim i b n)) b;
-      good = λ i b n. upd-cases (λ (i : ℕ) (s : State). InF F i → Good s) (w .state) me (o .state) i (λ b. a .is-good) (λ n b. s .good i b n) b;
-      owns = λ i b n. upd-cases (λ (i : ℕ) (s : State). i < 16 → s .own ≡ i) (w .state) me (o .state) i (λ b. a .own) (λ n b. s .owns i b n) b;
+      good = λ i b n. upd-cases (λ (i : ℕ) (s : State). InF F i → Good s) (w .state) me (o .state) i (λ b. a .is-good)
+          (λ n b. s .good i b n) b;
+      owns = λ i b n. upd-cases (λ (i : ℕ) (s : State). i < 16 → s .own ≡ i) (w .state) me (o .state) i (λ b. a .own)
+          (λ n b. s .owns i b n) b;
       links = λ i j b. upd-cases (λ (i : ℕ) (f : ℕ → List Item). FromF F i j → f j ≡ k .link i j) (w .link) me _ i
-          (λ b. ap (λ (l : List Item). l ++ mail (w .clock) j (o .written)) (s .links me j b) ∙ sym (m .mailed j (b .1)))
+          (λ b. ap (λ (l : List Item). l ++ mail (w .clock) j (o .written)) (s .links me j b)
+          ∙ sym (m .mailed j (b .1)))
           (λ e b. s .links i j b ∙ sym (ap (λ f. f j) (m .elsewhere i e .link))) b;
       shown = λ i b. upd-cases (λ (i : ℕ) (l : List SentRecord). InF F i → viewsIn l ≡ k .shown i) (w .log) me _ i
-          (λ b. views-logged (w .clock) (o .written) (w .log me) ∙ ap (shows (w .clock) (o .written)) (s .shown me b) ∙ sym (m .showed)) (λ e b. s .shown i b ∙ sym (m .elsewhere i e .shown)) b;
+          (λ b. views-logged (w .clock) (o .written) (w .log me) ∙ ap (shows (w .clock) (o .written)) (s .shown me b)
+          ∙ sym (m .showed)) (λ e b. s .shown i b ∙ sym (m .elsewhere i e .shown)) b;
       valid = λ i j b. row-all (λ i j x. Valid i j (x .proposal)) i j (s .valid i j b)
           (mail-all (Valid me j) (w .clock) j (o .written) (each-to j (a .sends)));
-      stamped = λ i j b. row-all (λ i j x. x .sent < w .clock + 1) i j (every-map (λ x e. omega arith) (s .stamped i j b)) (mail-stamped (w .clock) j (o .written));
+      stamped = λ i j b. row-all (λ i j x. x .sent < w .clock + 1) i j
+          (every-map (λ x e. omega arith) (s .stamped i j b)) (mail-stamped (w .clock) j (o .written));
       named = λ i j b c. row-all (λ i j x. x .proposal .sender ≡ i) i j (s .named i j b c)
           (mail-all (λ p. p .sender ≡ me) (w .clock) j (o .written) (each-map (λ p e f. e) (a .names)));
-      below = λ i b p h. upd-cases (λ (i : ℕ) (l : List SentRecord). InF F i → List·Memᴰ (Entry p (h .0)) l → usedFor p i < p .number)
+      below = λ i b p h. upd-cases (λ (i : ℕ) (l : List SentRecord). InF F i → List·Memᴰ (Entry p (h .0)) l
+          → usedFor p i < p .number)
           (w .log) me _ i (λ b h. ⊎-elim (λ e. e) (λ e. s .below me b p (_, e)) (in-log (w .clock) (o .written) (w .log me) (a .below) h)) (λ n b h. s .below i b p (_, h))
           b (h .1);
     }
@@ -175,7 +188,8 @@ module _ (F : ℕ → Bool) where
     pub links : (a b : ℕ) → FromF F a b → withLink w i j l .link a b ≡ h .link a b
     pub part : (P : Item → Type 0) → Every P (w .link i j) → Every P l
 
-  pub seen-linked : (w : World) (g h : Offices) (x i j : ℕ) (l : List Item) → SeenAll w g → Linked w g h x i j l → Seen x (withLink w i j l) h
+  pub seen-linked : (w : World) (g h : Offices) (x i j : ℕ) (l : List Item) → SeenAll w g → Linked w g h x i j l
+      → Seen x (withLink w i j l) h
   unfolding withLink
   seen-linked w g h x i j l s k = record {
     sim = λ a b n. sim-kept (w .state a) g h a (k .kept a n) (s .sim a b (below-sixteen (b .0)));
@@ -189,8 +203,11 @@ module _ (F : ℕ → Bool) where
     below = s .below;
   }
     where
-      place : (P : ℕ → ℕ → Item → Type 0) (a b : ℕ) → Every (P a b) (w .link a b) → Every (P a b) (upd (w .link) i (upd (w .link i) j l) a b)
-      place P a b old = upd2-cases (λ a b (m : List Item). Every (P a b) (w .link a b) → Every (P a b) m) (w .link) i j l a b (k .part (P i j)) (λ n o. o) old
+      place : (P : ℕ → ℕ → Item → Type 0) (a b : ℕ) → Every (P a b) (w .link a b)
+          → Every (P a b) (upd (w .link) i (upd (w .link i) j l) a b)
+      place P a b old =
+          upd2-cases (λ a b (m : List Item). Every (P a b) (w .link a b) → Every (P a b) m) (w .link) i j l a b
+          (k .part (P i j)) (λ n o. o) old
 
   -- nothing happens
   pub seen-idle : (w : World) (g : Offices) → SeenAll w g → SeenAll (idle w) g
@@ -212,18 +229,27 @@ module _ (F : ℕ → Bool) where
       → r .state .own ≡ o → EachProposal (λ p. p .sender ≡ o) (r .written) → SeenAll (answered w o r) g
   unfolding answered
   seen-outside w g o r s lt out own e = record {
-    sim = λ i b n. upd-cases (λ (i : ℕ) (s : State). InF F i → Sim s g i) (w .state) o (r .state) i (λ b. absurd (out b)) (λ m b. s .sim i b n) b;
-    good = λ i b n. upd-cases (λ (i : ℕ) (s : State). InF F i → Good s) (w .state) o (r .state) i (λ b. absurd (out b)) (λ m b. s .good i b n) b;
-    owns = λ i b n. upd-cases (λ (i : ℕ) (s : State). i < 16 → s .own ≡ i) (w .state) o (r .state) i (λ b. own) (λ m b. s .owns i b n) b;
+    sim = λ i b n. upd-cases (λ (i : ℕ) (s : State). InF F i → Sim s g i) (w .state) o (r .state) i
+        (λ b. absurd (out b)) (λ m b. s .sim i b n) b;
+    good = λ i b n. upd-cases (λ (i : ℕ) (s : State). InF F i → Good s) (w .state) o (r .state) i
+        (λ b. absurd (out b)) (λ m b. s .good i b n) b;
+    owns = λ i b n. upd-cases (λ (i : ℕ) (s : State). i < 16 → s .own ≡ i) (w .state) o (r .state) i (λ b. own)
+        (λ m b. s .owns i b n) b;
     links = λ i j b. upd-cases (λ (i : ℕ) (f : ℕ → List Item). FromF F i j → f j ≡ g .link i j) (w .link) o _ i
         (λ b. absurd (out (b .0))) (λ m b. s .links i j b) b;
-    shown = λ i b. upd-cases (λ (i : ℕ) (l : List SentRecord). InF F i → viewsIn l ≡ g .shown i) (w .log) o _ i (λ b. absurd (out b)) (λ m b. s .shown i b) b;
-    valid = λ i j b. upd-cases (λ (i : ℕ) (f : ℕ → List Item). FromF F i j → Every (λ x. Valid i j (x .proposal)) (f j)) (w .link) o _ i
+    shown = λ i b. upd-cases (λ (i : ℕ) (l : List SentRecord). InF F i → viewsIn l ≡ g .shown i) (w .log) o _ i
+        (λ b. absurd (out b)) (λ m b. s .shown i b) b;
+    valid = λ i j b. upd-cases (λ (i : ℕ) (f : ℕ → List Item). FromF F i j
+        → Every (λ x. Valid i j (x .proposal)) (f j)) (w .link) o _ i
         (λ b. absurd (out (b .0))) (λ m b. s .valid i j b) b;
-    stamped = λ i j b. upd-cases (λ (i : ℕ) (f : ℕ → List Item). FromF F i j → Every (λ x. x .sent < w .clock + 1) (f j)) (w .link) o _ i
+    stamped = λ i j b. upd-cases (λ (i : ℕ) (f : ℕ → List Item). FromF F i j
+        → Every (λ x. x .sent < w .clock + 1) (f j)) (w .link) o _ i
         (λ b. absurd (out (b .0))) (λ m b. every-map (λ x e. omega arith) (s .stamped i j b)) b;
-    named = λ i j b c. upd-cases (λ (i : ℕ) (f : ℕ → List Item). i < 16 → Every (λ x. x .proposal .sender ≡ i) (f j)) (w .link) o _ i
-        (λ b. every-append (s .named o j b c) (mail-all (λ p. p .sender ≡ o) (w .clock) j (r .written) (each-map (λ p e f. e) e))) (λ m b. s .named i j b c) b;
+    named = λ i j b c. upd-cases (λ (i : ℕ) (f : ℕ → List Item). i < 16 → Every (λ x. x .proposal .sender ≡ i) (f j))
+        (w .link) o _ i
+        (λ b. every-append (s .named o j b c)
+        (mail-all (λ p. p .sender ≡ o) (w .clock) j (r .written) (each-map (λ p e f. e) e)))
+        (λ m b. s .named i j b c) b;
     below = λ i b p h. upd-cases (λ (i : ℕ) (l : List SentRecord). InF F i → List·Memᴰ (Entry p (h .0)) l → usedFor p i < p .number)
         (w .log) o _ i (λ b. absurd (out b)) (λ n b h. s .below i b p (_, h)) b (h .1);
   }

@@ -1,4 +1,5 @@
--- How a run begins, for a set F of offices: those of F fresh with empty links, every other with its own number and its own proposals.
+-- How a run begins, for a set F of offices: those of F fresh with empty links, every other with its own number and
+-- its own proposals.
 use mathlib.Core.Path.{_≡_}
 use mathlib.Core.Bool.{Bool, true}
 use mathlib.Core.List.{List, [], _∷_, List·Memᴰ}
@@ -30,4 +31,5 @@ HasSent w i p = (t : ℕ) × List·Memᴰ (record { what = proposal p; clock = t
 -- the numbers of a row rise strictly, from above lo up to hi
 pub data Rising : ℕ → ℕ → List Item → Type 0 where
   end : {lo hi : ℕ} → lo ≤ hi → Rising lo hi []
-  next : {lo hi : ℕ} {x : Item} {l : List Item} → lo < x .proposal .number → Rising (x .proposal .number) hi l → Rising lo hi (x ∷ l)
+  next : {lo hi : ℕ} {x : Item} {l : List Item} → lo < x .proposal .number → Rising (x .proposal .number) hi l
+      → Rising lo hi (x ∷ l)

@@ -55,7 +55,8 @@ testedIn s (aProposal p) = slowTest (received s p) .state
 abbrev pub testedAt : LogEntry → State
 testedAt e = testedIn (e .before) (e .handed .event)
 
--- a view was sent at this entry, and for office o it counted the proposal p: the one stored when the agreement test found it
+-- a view was sent at this entry, and for office o it counted the proposal p: the one stored when the agreement test
+-- found it
 pub record CountedAt (e : LogEntry) (o : ℕ) (p : Proposal) : Type 0 where
   pub seen : View
   pub sent : List·Memᴰ (view seen) (answerOf e .written)

@@ -1,4 +1,5 @@
--- The world of sixteen offices, the links between them, the clock and the log; the events and what each does by the rules of the step.
+-- The world of sixteen offices, the links between them, the clock and the log; the events and what each does by the
+-- rules of the step.
 use mathlib.Core.Path.{_≡_}
 use mathlib.Core.Bool.{_&&_}
 use mathlib.Core.List.{List, [], _∷_, _++_}
@@ -29,8 +30,8 @@ pub record SentView : Type 0 where
   pub view : View
   pub sent : ℕ
 
--- Sixteen offices and, from each to each other, a link. The clock counts the events so far; the log holds all that each office sent,
--- latest first.
+-- Sixteen offices and, from each to each other, a link. The clock counts the events so far; the log holds all that
+-- each office sent, latest first.
 pub record World : Type 0 where
   pub state : ℕ → State
   pub link : ℕ → ℕ → List Item
@@ -70,8 +71,8 @@ abbrev pub viewsIn : List SentRecord → List SentView
 viewsIn [] = []
 viewsIn (x ∷ l) = viewOn (x .what) (x .clock) (viewsIn l)
 
--- Office o gave the answer r: its state is r's, and each proposal written joins the end of the link to each recipient. (A refusal
--- gives back the state and writes nothing.)
+-- Office o gave the answer r: its state is r's, and each proposal written joins the end of the link to each
+-- recipient. (A refusal gives back the state and writes nothing.)
 unfoldable pub answered : World → ℕ → Result → World
 answered w o r =
     record {

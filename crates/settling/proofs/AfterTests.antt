@@ -1,4 +1,5 @@
--- What the two tests leave behind at an office, and that a used number that is current has not arrived: kept by every event.
+-- What the two tests leave behind at an office, and that a used number that is current has not arrived: kept by every
+-- event.
 use mathlib.Core.Path.{_≡_, refl, sym, ap, _∙_, subst}
 use mathlib.Core.Bool.{true, false}
 use mathlib.Core.Logic.{_⊎_, inl, inr}
@@ -67,15 +68,18 @@ module _ {g h : Offices} {i : ℕ} (k : Like g h i) where
       record {
         busy = λ e. s .busy (sym (k .of-mode) ∙ e);
         no-slow =
-            λ m o l n q r. s .no-slow (sym (k .of-mode) ∙ m) o l n (like-match o q) (sym (ap (λ s. s .proposal .kind) (k .of-stored o q)) ∙ r);
+            λ m o l n q r. s .no-slow (sym (k .of-mode) ∙ m) o l n (like-match o q)
+            (sym (ap (λ s. s .proposal .kind) (k .of-stored o q)) ∙ r);
         not-used =
             λ o l n q r.
-            s .not-used o l n (like-match o q) (sym (ap (λ s. usedFor (s .proposal) i) (k .of-stored o q)) ∙ r ∙ k .of-num);
+            s .not-used o l n (like-match o q) (sym (ap (λ s. usedFor (s .proposal) i) (k .of-stored o q)) ∙ r
+            ∙ k .of-num);
         not-above =
             λ m o l n q r.
             let e = ap (λ s. s .proposal .number) (k .of-stored o q) in
             let f = k .of-num in
-            let b = s .not-above (sym (k .of-mode) ∙ m) o l n (like-match o q) (sym (ap (λ s. s .proposal .kind) (k .of-stored o q)) ∙ r) in
+            let b = s .not-above (sym (k .of-mode) ∙ m) o l n (like-match o q)
+            (sym (ap (λ s. s .proposal .kind) (k .of-stored o q)) ∙ r) in
             omega arith;
       }
 
@@ -96,9 +100,15 @@ module _ (A : ℕ) (last : ℕ → ℕ) (u : ℕ) where
   renet-others : (g : Offices) (me x : ℕ) → Others g me → Others (renet g me x) me
   unfolding renet
   renet-others g me x f i n d =
-      like-tested (record { of-mode = refl; of-net = upd-other (g .net) me x i n; of-num = refl; of-stored = λ o m. refl }) (f i n d)
+      like-tested (record {
+        of-mode = refl;
+        of-net = upd-other (g .net) me x i n;
+        of-num = refl;
+        of-stored = λ o m. refl;
+      }) (f i n d)
 
-  propose-others : (g : Offices) (me : ℕ) (m : Mode) (p : Proposal) (t : ℕ) → Others g me → Others (propose g me m p t) me
+  propose-others : (g : Offices) (me : ℕ) (m : Mode) (p : Proposal) (t : ℕ) → Others g me
+      → Others (propose g me m p t) me
   unfolding propose
   propose-others g me m p t f i n q =
       like-tested
@@ -110,11 +120,17 @@ module _ (A : ℕ) (last : ℕ → ℕ) (u : ℕ) where
       })
       (f i n q)
 
-  receive-others : (g : Offices) (me j : ℕ) (p : Proposal) (l : List Item) → Others g me → Others (receive g me j p l) me
+  receive-others : (g : Offices) (me j : ℕ) (p : Proposal) (l : List Item) → Others g me
+      → Others (receive g me j p l) me
   unfolding receive
   receive-others g me j p l f i n q =
       like-tested
-      (record { of-mode = refl; of-net = refl; of-num = refl; of-stored = λ o r. upd2-other (g .stored) me j (keeping p) i o (λ e k. n e) })
+      (record {
+        of-mode = refl;
+        of-net = refl;
+        of-num = refl;
+        of-stored = λ o r. upd2-other (g .stored) me j (keeping p) i o (λ e k. n e);
+      })
       (f i n q)
 
   conclude-others : (g : Offices) (me t : ℕ) → Others g me → Others (conclude g me t) me
@@ -139,14 +155,16 @@ module _ (A : ℕ) (last : ℕ → ℕ) (u : ℕ) where
 
   -- what is stored for another office has a seat of that office
   abbrev Seated : Offices → ℕ → Type 0
-  Seated g me = (o : ℕ) → o < 16 → (o ≡ me → ⊥) → g .stored me o .present ≡ true → serves (other g me o .members .bits) o ≡ true
+  Seated g me = (o : ℕ) → o < 16 → (o ≡ me → ⊥) → g .stored me o .present ≡ true
+      → serves (other g me o .members .bits) o ≡ true
 
   -- after the slow test of an office me of A whose last report has come, it is silent
   module _ {g : Offices} (c : Core A last u g) {me : ℕ} (a : OfA A me) where
     of-A : (o : ℕ) → last me < u → o < 16 → (o ≡ me → ⊥) → Match g me o → OfA A o
     of-A o e l n m = (l, rw (← c .book .net-A me (a, e), ← m .1) (c .numbers .with-seat me o a l n (m .0)))
 
-    chosen-above : (n : ℕ) → g .num me < n → Chosen g me n → (o : ℕ) → o < 16 → (o ≡ me → ⊥) → Match g me o → other g me o .kind ≡ slow
+    chosen-above : (n : ℕ) → g .num me < n → Chosen g me n → (o : ℕ) → o < 16 → (o ≡ me → ⊥) → Match g me o
+        → other g me o .kind ≡ slow
         → other g me o .number ≤ n
     chosen-above n b r o l q m k = go (decLt (g .num me) (other g me o .number)) r
       where
@@ -165,12 +183,14 @@ module _ (A : ℕ) (last : ℕ → ℕ) (u : ℕ) where
           not-used =
               λ o l n m u.
               let b = c .numbers .kept-used o me (of-A o e l n (match o n m)) a n (match o n m .0) in
-              let v : usedFor (other g me o) me ≡ p .number = sym (ap (λ s. usedFor (s .proposal) me) (same o n)) ∙ u ∙ num in
+              let v : usedFor (other g me o) me ≡ p .number = sym (ap (λ s. usedFor (s .proposal) me) (same o n)) ∙ u
+              ∙ num in
               let w = q .above in
               omega arith;
           not-above =
               λ x o l n m k.
-              let b = chosen-above (p .number) (q .above) r o l n (match o n m) (sym (ap (λ s. s .proposal .kind) (same o n)) ∙ k) in
+              let b = chosen-above (p .number) (q .above) r o l n (match o n m)
+              (sym (ap (λ s. s .proposal .kind) (same o n)) ∙ k) in
               let v = ap (λ s. s .proposal .number) (same o n) in
               let w = num in
               omega arith;
@@ -183,7 +203,11 @@ module _ (A : ℕ) (last : ℕ → ℕ) (u : ℕ) where
         same o n = upd2-other (g .stored) me me (keeping p) me o (λ x. n)
 
         match : (o : ℕ) → (o ≡ me → ⊥) → Match (propose g me Slow p t) me o → Match g me o
-        match o n m = (sym (ap (λ s. s .present) (same o n)) ∙ m .0, sym (ap (λ s. s .proposal .members .bits) (same o n)) ∙ m .1)
+        match o n m = (
+          sym (ap (λ s. s .present) (same o n))
+              ∙ m .0,
+          sym (ap (λ s. s .proposal .members .bits) (same o n)) ∙ m .1,
+        )
 
     slow-silent : {t : ℕ} {h : Offices} → SlowTest t me g h → last me < u → Silent h me
     slow-silent (not-called s) e = s
@@ -202,7 +226,8 @@ module _ (A : ℕ) (last : ℕ → ℕ) (u : ℕ) where
       record {
         in-none =
             λ x o l n m.
-            let e = ap (λ s. s o) (upd-same (g .stored) me (λ o. ifb (serves (g .net me) o) nothing (g .stored me o))) in
+            let e = ap (λ s. s o)
+            (upd-same (g .stored) me (λ o. ifb (serves (g .net me) o) nothing (g .stored me o))) in
             empty o l n (sym (ap (λ s. s .present) e) ∙ m .0) (sym (ap (λ s. s .proposal .members .bits) e) ∙ m .1);
         quiet = λ x. absurd (x none);
         not-agreed = λ x. x .busy none;
@@ -221,7 +246,8 @@ module _ (A : ℕ) (last : ℕ → ℕ) (u : ℕ) where
           (λ s q r. let y = f o l n q in let z : _≡_ {A = ℕ} 0 1 = cc in omega arith)
 
   -- after both tests
-  tests-tested : {t me : ℕ} {g h : Offices} → Core A last u g → OfA A me → last me < u → Tests t me g h → AfterTests h me
+  tests-tested : {t me : ℕ} {g h : Offices} → Core A last u g → OfA A me → last me < u → Tests t me g h
+      → AfterTests h me
   tests-tested c a e (both s (not-agreed n)) =
       let q = slow-silent c a s e in
       record { in-none = λ m. absurd (q .busy m); quiet = λ b. q; not-agreed = n }
@@ -229,7 +255,8 @@ module _ (A : ℕ) (last : ℕ → ℕ) (u : ℕ) where
 
   -- a used number of i's last proposal that is j's current number has not arrived
   abbrev Late : Offices → ℕ → ℕ → Type 0
-  Late g i j = Done A last u i → Done A last u j → (i ≡ j → ⊥) → usedFor (g .made i) j ≡ g .num j → g .link i j ≡ [] → ⊥
+  Late g i j = Done A last u i → Done A last u j → (i ≡ j → ⊥) → usedFor (g .made i) j ≡ g .num j → g .link i j ≡ []
+      → ⊥
 
   propose-late : (g : Offices) (me : ℕ) (m : Mode) (p : Proposal) (t : ℕ) {kind : ℕ} → Proposes g me kind p
       → (last me < u → g .net me ≡ A) → ((i : ℕ) → (i ≡ me → ⊥) → Done A last u i → usedFor (g .made i) me ≤ g .num me)
@@ -277,14 +304,16 @@ module _ (A : ℕ) (last : ℕ → ℕ) (u : ℕ) where
   receive-late g me o p l f i j n di dj x u k = f i j di dj x u (sym (upd2-other (g .link) o me l i j n) ∙ k)
 
   -- what leaves its link empty is the last proposal of its sender
-  last-arrives : (g : Offices) (me i : ℕ) (p : Proposal) (l : List Item) → Core A last u g → Arrives (serves A) g me i p l → Done A last u i → l ≡ []
+  last-arrives : (g : Offices) (me i : ℕ) (p : Proposal) (l : List Item) → Core A last u g
+      → Arrives (serves A) g me i p l → Done A last u i → l ≡ []
       → p ≡ g .made i
   last-arrives g me i p l c r d e = go (c .book .place i me d (r .at-office) (r .others))
     where
       x : (x : Item) × (g .link i me ≡ x ∷ l) × (x .proposal ≡ p)
       x = r .oldest (d .0)
 
-      tail : (y : Item) → y .proposal ≡ g .made i → ((l ≡ []) × (y ≡ x .0)) ⊎ ((m : List Item) × (l ≡ m ++ (y ∷ []))) → p ≡ g .made i
+      tail : (y : Item) → y .proposal ≡ g .made i → ((l ≡ []) × (y ≡ x .0)) ⊎ ((m : List Item) × (l ≡ m ++ (y ∷ [])))
+          → p ≡ g .made i
       tail y w (inl s) = sym (x .2) ∙ ap (λ v. v .proposal) (sym (s .1)) ∙ w
       tail y w (inr s) = absurd (snoc-not-nil (s .0) y (sym (s .1) ∙ e))
 
@@ -297,7 +326,8 @@ module _ (A : ℕ) (last : ℕ → ℕ) (u : ℕ) where
       go (counted q s u) = absurd (nil q)
 
   -- a lost item is not the last proposal
-  relink-late : (g : Offices) (o v place : ℕ) → Core A last u g → {t : ℕ} → Losing A last g o v place t → ((i j : ℕ) → Late g i j)
+  relink-late : (g : Offices) (o v place : ℕ) → Core A last u g → {t : ℕ} → Losing A last g o v place t
+      → ((i j : ℕ) → Late g i j)
       → (i j : ℕ) → Late (relink g o v (without place (g .link o v))) i j
   unfolding relink
   relink-late g o v place c s f i j = go (ℕ-discrete i o) (ℕ-discrete j v)
@@ -305,7 +335,8 @@ module _ (A : ℕ) (last : ℕ → ℕ) (u : ℕ) where
       h : Offices
       h = relink g o v (without place (g .link o v))
 
-      empty : Done A last u o → Done A last u v → usedFor (g .made o) v ≡ g .num v → without place (g .link o v) ≡ [] → Place A last g o v → ⊥
+      empty : Done A last u o → Done A last u v → usedFor (g .made o) v ≡ g .num v → without place (g .link o v) ≡ []
+          → Place A last g o v → ⊥
       empty di dj u k (on-its-way l x q w b) =
           let y = without-nil place l x (rw q at k) in
           let z = s .early (dj .0) x (rw q (y .0)) (rw q (y .1)) in
@@ -315,7 +346,8 @@ module _ (A : ℕ) (last : ℕ → ℕ) (u : ℕ) where
 
       lost : Late h o v
       lost di dj n u k =
-          empty di dj u (sym (upd2-same (g .link) o v (without place (g .link o v))) ∙ k) (c .book .place o v di (dj .0) (s .others))
+          empty di dj u (sym (upd2-same (g .link) o v (without place (g .link o v))) ∙ k)
+          (c .book .place o v di (dj .0) (s .others))
 
       rest : (i ≡ o → j ≡ v → ⊥) → Late h i j
       rest n di dj x u k = f i j di dj x u (sym (upd2-other (g .link) o v (without place (g .link o v)) i j n) ∙ k)
@@ -326,8 +358,10 @@ module _ (A : ℕ) (last : ℕ → ℕ) (u : ℕ) where
       go (no e) r = rest (λ x y. e x)
 
   -- if the last proposal of its sender arrives, its used number for me is not current
-  receive-last : (g : Offices) (me o : ℕ) (p : Proposal) (l : List Item) → Core A last u g → Arrives (serves A) g me o p l → ((i j : ℕ) → Late g i j)
-      → (Done A last u o → Done A last u me → p ≡ g .made o → usedFor p me ≡ g .num me → ⊥) → (i j : ℕ) → Late (receive g me o p l) i j
+  receive-last : (g : Offices) (me o : ℕ) (p : Proposal) (l : List Item) → Core A last u g
+      → Arrives (serves A) g me o p l → ((i j : ℕ) → Late g i j)
+      → (Done A last u o → Done A last u me → p ≡ g .made o → usedFor p me ≡ g .num me → ⊥) → (i j : ℕ)
+      → Late (receive g me o p l) i j
   unfolding receive
   receive-last g me o p l c r f w i j = go (ℕ-discrete i o) (ℕ-discrete j me)
     where
@@ -342,35 +376,44 @@ module _ (A : ℕ) (last : ℕ → ℕ) (u : ℕ) where
       go (no e) q = receive-late g me o p l f i j (λ x y. e x)
 
   -- a called slow test makes a proposal, so what was on the links to me before it does not matter
-  slow-late : {t me : ℕ} {g h : Offices} → Core A last u g → OfA A me → SlowTest t me g h → ((i j : ℕ) → (j ≡ me → ⊥) → Late g i j)
+  slow-late : {t me : ℕ} {g h : Offices} → Core A last u g → OfA A me → SlowTest t me g h
+      → ((i j : ℕ) → (j ≡ me → ⊥) → Late g i j)
       → (Silent g me → (i j : ℕ) → Late g i j) → (i j : ℕ) → Late h i j
   slow-late c a (not-called s) f w = w s
   slow-late {t} {me} {g} c a (called p k q r) f w =
-      propose-late g me Slow p t q (λ e. c .book .net-A me (a, e)) (λ i n d. c .book .made-used i me d a n) (λ i j n. f i j)
+      propose-late g me Slow p t q (λ e. c .book .net-A me (a, e)) (λ i n d. c .book .made-used i me d a n)
+      (λ i j n. f i j)
 
-  tests-late : {t me : ℕ} {g h : Offices} → Core A last u g → OfA A me → Tests t me g h → ((i j : ℕ) → (j ≡ me → ⊥) → Late g i j)
+  tests-late : {t me : ℕ} {g h : Offices} → Core A last u g → OfA A me → Tests t me g h
+      → ((i j : ℕ) → (j ≡ me → ⊥) → Late g i j)
       → (Silent g me → (i j : ℕ) → Late g i j) → (i j : ℕ) → Late h i j
   tests-late c a (both s (not-agreed n)) f w = slow-late c a s f w
   tests-late {t} {me} c a (both {h = k} s (agreed b)) f w = conclude-late k me t (slow-late c a s f w)
 
   -- the invariant after an event at office me
-  at-office : {g : Offices} (me : ℕ) → Core A last u g → Others g me → (Done A last u me → AfterTests g me) → ((i j : ℕ) → Late g i j) → Inv A last u g
+  at-office : {g : Offices} (me : ℕ) → Core A last u g → Others g me → (Done A last u me → AfterTests g me)
+      → ((i j : ℕ) → Late g i j) → Inv A last u g
   at-office {g} me c f w n = record { core = c; tested = λ i. go i (ℕ-discrete i me); not-arrived = n }
     where
       go : (i : ℕ) → Dec (i ≡ me) → Done A last u i → AfterTests g i
       go i (yes e) = rw e w
       go i (no n) = f i n
 
-  after-tests : {t me : ℕ} {g h : Offices} → Core A last u g → Core A last u h → OfA A me → Tests t me g h → Others g me
+  after-tests : {t me : ℕ} {g h : Offices} → Core A last u g → Core A last u h → OfA A me → Tests t me g h
+      → Others g me
       → ((i j : ℕ) → (j ≡ me → ⊥) → Late g i j) → (Silent g me → (i j : ℕ) → Late g i j) → Inv A last u h
   after-tests {me = me} c k a s o f w =
       at-office me k (tests-others s o) (λ d. tests-tested c a (d .1) s) (tests-late c a s f w)
 
-  leaves-inv : (g : Offices) (me x : ℕ) → Inv A last u g → Core A last u (renet g me x) → u ≤ last me → Inv A last u (renet g me x)
+  leaves-inv : (g : Offices) (me x : ℕ) → Inv A last u g → Core A last u (renet g me x) → u ≤ last me
+      → Inv A last u (renet g me x)
   unfolding renet
-  leaves-inv g me x v c e = at-office me c (renet-others g me x (λ i n. v .tested i)) (λ d. let l = d .1 in absurd (omega arith)) (v .not-arrived)
+  leaves-inv g me x v c e =
+      at-office me c (renet-others g me x (λ i n. v .tested i)) (λ d. let l = d .1 in absurd (omega arith))
+      (v .not-arrived)
 
-  stores-inv : (g : Offices) (me o : ℕ) (p : Proposal) (l : List Item) → Inv A last u g → Core A last u (receive g me o p l) → Arrives (serves A) g me o p l
+  stores-inv : (g : Offices) (me o : ℕ) (p : Proposal) (l : List Item) → Inv A last u g
+      → Core A last u (receive g me o p l) → Arrives (serves A) g me o p l
       → (p .members .bits ≡ g .net me → ⊥) → Inv A last u (receive g me o p l)
   unfolding receive
   stores-inv g me o p l v c r n =
@@ -378,7 +421,8 @@ module _ (A : ℕ) (last : ℕ → ℕ) (u : ℕ) where
       (receive-last g me o p l (v .core) r (v .not-arrived)
       (λ di dj e u. n (ap (λ q. q .members .bits) e ∙ v .core .book .made-A o di ∙ sym (v .core .book .net-A me dj))))
     where
-      same : (q : ℕ) → Dec (q ≡ o) → Match (receive g me o p l) me q → upd2 (g .stored) me o (keeping p) me q ≡ g .stored me q
+      same : (q : ℕ) → Dec (q ≡ o) → Match (receive g me o p l) me q
+          → upd2 (g .stored) me o (keeping p) me q ≡ g .stored me q
       same q (yes e) m =
           let w : upd2 (g .stored) me o (keeping p) me q ≡ keeping p = rw e (upd2-same (g .stored) me o (keeping p)) in
           absurd (n (sym (ap (λ s. s .proposal .members .bits) w) ∙ m .1))
@@ -387,26 +431,36 @@ module _ (A : ℕ) (last : ℕ → ℕ) (u : ℕ) where
       like : Like g (receive g me o p l) me
       like = record { of-mode = refl; of-net = refl; of-num = refl; of-stored = λ q. same q (ℕ-discrete q o) }
 
-  answers-inv : {t : ℕ} (g h : Offices) (me o : ℕ) (p : Proposal) (l : List Item) → Inv A last u g → Core A last u (receive g me o p l) → Core A last u h
-      → Arrives (serves A) g me o p l → p .members .bits ≡ g .net me → Tests t me (receive g me o p l) h → Inv A last u h
+  answers-inv : {t : ℕ} (g h : Offices) (me o : ℕ) (p : Proposal) (l : List Item) → Inv A last u g
+      → Core A last u (receive g me o p l) → Core A last u h
+      → Arrives (serves A) g me o p l → p .members .bits ≡ g .net me → Tests t me (receive g me o p l) h
+      → Inv A last u h
   unfolding receive
   answers-inv g h me o p l v c k r n s =
       after-tests c k (r .at-office) s (receive-others g me o p l (λ i n. v .tested i))
-      (λ i j n. receive-late g me o p l (v .not-arrived) i j (λ x. n)) (λ q. receive-last g me o p l (v .core) r (v .not-arrived) (heard q))
+      (λ i j n. receive-late g me o p l (v .not-arrived) i j (λ x. n))
+      (λ q. receive-last g me o p l (v .core) r (v .not-arrived) (heard q))
     where
-      heard : Silent (receive g me o p l) me → Done A last u o → Done A last u me → p ≡ g .made o → usedFor p me ≡ g .num me → ⊥
+      heard : Silent (receive g me o p l) me → Done A last u o → Done A last u me → p ≡ g .made o
+          → usedFor p me ≡ g .num me → ⊥
       heard q di dj e u =
           let w = upd2-same (g .stored) me o (keeping p) in
-          q .not-used o (r .from-office) (r .others) (ap (λ s. s .present) w, ap (λ s. s .proposal .members .bits) w ∙ n)
+          q .not-used o (r .from-office) (r .others) (
+            ap (λ s. s .present) w,
+            ap (λ s. s .proposal .members .bits) w
+                ∙ n,
+          )
           (ap (λ s. usedFor (s .proposal) me) w ∙ u)
 
-  loses-inv : (g : Offices) (i j place : ℕ) → Inv A last u g → Core A last u (relink g i j (without place (g .link i j))) → {t : ℕ} → Losing A last g i j place t
+  loses-inv : (g : Offices) (i j place : ℕ) → Inv A last u g
+      → Core A last u (relink g i j (without place (g .link i j))) → {t : ℕ} → Losing A last g i j place t
       → Inv A last u (relink g i j (without place (g .link i j)))
   unfolding relink
   loses-inv g i j place v c s =
       record {
         core = c;
-        tested = λ o d. like-tested (record { of-mode = refl; of-net = refl; of-num = refl; of-stored = λ q m. refl }) (v .tested o d);
+        tested = λ o d. like-tested (record { of-mode = refl; of-net = refl; of-num = refl; of-stored = λ q m. refl })
+            (v .tested o d);
         not-arrived = relink-late g i j place (v .core) s (v .not-arrived);
       }
 
@@ -420,11 +474,13 @@ module _ (A : ℕ) (last : ℕ → ℕ) where
       }
 
   -- a report: the invariant of the others, then the proposal, then the tests
-  reports-inv : {t : ℕ} (g h : Offices) (me x : ℕ) (p : Proposal) → Inv A last t g → Core A last (t + 1) h → Reported A last g me x t p
+  reports-inv : {t : ℕ} (g h : Offices) (me x : ℕ) (p : Proposal) → Inv A last t g → Core A last (t + 1) h
+      → Reported A last g me x t p
       → Tests t me (propose (renet g me x) me Fast p t) h → Inv A last (t + 1) h
   unfolding renet
   reports-inv {t} g h me x p v k r s =
-      let o = propose-others A last (t + 1) (renet g me x) me Fast p t (renet-others A last (t + 1) g me x (λ i n d. v .tested i (old i n d))) in
+      let o = propose-others A last (t + 1) (renet g me x) me Fast p t
+      (renet-others A last (t + 1) g me x (λ i n d. v .tested i (old i n d))) in
       after-tests A last (t + 1) (core-report A last (v .core) r) k (r .at-office) s o (λ i j n. late i j) (λ q. late)
     where
       old : (i : ℕ) → (i ≡ me → ⊥) → Done A last (t + 1) i → Done A last t i
@@ -443,10 +499,13 @@ module _ (A : ℕ) (last : ℕ → ℕ) where
   inv-acts {t} {g = g} v (fair-loss i j place n s) = loses-inv A last (t + 1) g i j place (inv-later n v) (core-acts A last (v .core) (fair-loss i j place n s)) s
   inv-acts {t} {g = g} v (fair-leave me x n a e) =
       let m : last me ≡ t → ⊥ = n me a in
-      leaves-inv A last (t + 1) g me x (inv-later n v) (core-acts A last (v .core) (fair-leave me x n a e)) (omega arith)
-  inv-acts {t} {g = g} {h} v (fair-report me x p r s) = reports-inv g h me x p v (core-acts A last (v .core) (fair-report me x p r s)) r s
+      leaves-inv A last (t + 1) g me x (inv-later n v) (core-acts A last (v .core) (fair-leave me x n a e))
+      (omega arith)
+  inv-acts {t} {g = g} {h} v (fair-report me x p r s) =
+      reports-inv g h me x p v (core-acts A last (v .core) (fair-report me x p r s)) r s
   inv-acts {t} {g = g} v (fair-store me i p l n r d) =
-      stores-inv A last (t + 1) g me i p l (inv-later n v) (core-acts A last (v .core) (fair-store {g = g} me i p l n r d)) r d
+      stores-inv A last (t + 1) g me i p l (inv-later n v)
+      (core-acts A last (v .core) (fair-store {g = g} me i p l n r d)) r d
   inv-acts {t} {g = g} {h} v (fair-answer me i p l n r d s) =
       answers-inv A last (t + 1) g h me i p l (inv-later n v) (core-later A last n (core-receive A last (v .core) r))
       (core-acts A last (v .core) (fair-answer me i p l n r d s)) r d s

@@ -1,6 +1,7 @@
--- The settling rule at work: scenarios that fail none of its hypotheses (so that `meets-all` gives them, as it does for the first and the last),
--- small enough to follow by hand. At the end nothing is on its way between the offices, and their latest views are one. Seat 0 is of office 0, seat 4 of
--- office 1, seat 8 of office 2, seat 12 of office 3. {0, 4} is 17, {8} is 256, {0, 4, 8} is 273, {12} is 4096, {0, 12} is 4097.
+-- The settling rule at work: scenarios that fail none of its hypotheses (so that `meets-all` gives them, as it does
+-- for the first and the last), small enough to follow by hand. At the end nothing is on its way between the offices,
+-- and their latest views are one. Seat 0 is of office 0, seat 4 of office 1, seat 8 of office 2, seat 12 of office 3.
+-- {0, 4} is 17, {8} is 256, {0, 4, 8} is 273, {12} is 4096, {0, 12} is 4097.
 use mathlib.Core.Path.{_≡_, refl, ap}
 use mathlib.Core.List.{[], _∷_}
 use Rattle.rules.specs.State.{zeros}
@@ -10,7 +11,8 @@ use Rattle.settling.specs.Scenarios.{Scenario, stateIn, linkIn, changeAt
 use Rattle.settling.proofs.Scenarios.{meets-all, reported}
 use Rattle.settling.specs.Scenarios.{Summary, summary, no-view, sent-at, join, leave, hand, inNone, three}
 
--- 1. Both offices are told of {0, 4}: each proposes with start 1 and number 1. Each takes the other's proposal and sends view 2.
+-- 1. Both offices are told of {0, 4}: each proposes with start 1 and number 1. Each takes the other's proposal and
+-- sends view 2.
 abbrev plain : Scenario
 plain = record { set = 17; begun = []; posted = []; events = join 0 17 ∷ join 1 17 ∷ hand 0 1 ∷ hand 1 0 ∷ [] }
 
@@ -39,16 +41,17 @@ pub plain-reported : AllReported 17 (stateIn []) (linkIn []) (plain .events) (ch
 unfolding summary
 plain-reported = reported plain 1 refl
 
--- 2. After 1, office 0 alone is told that seat 4 left (event 4: view 3 of {0}, number 2) and that it joined again (event 5): notice 3, fast
--- proposal number 3 with used 2, 1. Office 1 is in mode none: it opens with start 2 and makes slow proposal 4. Office 0 joins number 4 and sends
--- view 4, then office 1 does.
+-- 2. After 1, office 0 alone is told that seat 4 left (event 4: view 3 of {0}, number 2) and that it joined again
+-- (event 5): notice 3, fast proposal number 3 with used 2, 1. Office 1 is in mode none: it opens with start 2 and
+-- makes slow proposal 4. Office 0 joins number 4 and sends view 4, then office 1 does.
 abbrev again : Scenario
 again =
     record {
       set = 17;
       begun = [];
       posted = [];
-      events = join 0 17 ∷ join 1 17 ∷ hand 0 1 ∷ hand 1 0 ∷ leave 0 16 ∷ join 0 16 ∷ hand 0 1 ∷ hand 1 0 ∷ hand 0 1 ∷ [];
+      events = join 0 17 ∷ join 1 17 ∷ hand 0 1 ∷ hand 1 0 ∷ leave 0 16 ∷ join 0 16 ∷ hand 0 1 ∷ hand 1 0 ∷ hand 0 1
+          ∷ [];
     }
 
 again-summary :
@@ -67,16 +70,17 @@ again-summary :
 unfolding summary
 again-summary = refl
 
--- 3. Office 0 has sent view 2, but its proposal to office 1 is lost; only then is it told that seat 4 left and joined again (events 4 and 5).
--- The new proposal has used number 1 for office 1, which is still in mode fast with own number 1: slow agreement is called for, number 4 with
--- start 1.
+-- 3. Office 0 has sent view 2, but its proposal to office 1 is lost; only then is it told that seat 4 left and joined
+-- again (events 4 and 5). The new proposal has used number 1 for office 1, which is still in mode fast with own
+-- number 1: slow agreement is called for, number 4 with start 1.
 abbrev lossy : Scenario
 lossy =
     record {
       set = 17;
       begun = [];
       posted = [];
-      events = join 0 17 ∷ join 1 17 ∷ hand 1 0 ∷ loss 0 1 0 ∷ leave 0 16 ∷ join 0 16 ∷ hand 0 1 ∷ hand 1 0 ∷ hand 0 1 ∷ [];
+      events = join 0 17 ∷ join 1 17 ∷ hand 1 0 ∷ loss 0 1 0 ∷ leave 0 16 ∷ join 0 16 ∷ hand 0 1 ∷ hand 1 0 ∷ hand 0 1
+          ∷ [];
     }
 
 lossy-summary :
@@ -95,9 +99,10 @@ lossy-summary :
 unfolding summary
 lossy-summary = refl
 
--- 4. Refused on the way. Office 3 is no office of {0, 4} and starts with number 5 and used number 9 for office 0; a proposal of kind 3
--- is on its link to office 0. Office 0 first proposes {0, 12}: office 3 has room for 181 bytes and answers 3. Office 0 answers 7 to the
--- proposal of kind 3, and 12 to the one that office 3 makes. Then {12} leaves, {4} joins, and offices 0 and 1 agree on view 3.
+-- 4. Refused on the way. Office 3 is no office of {0, 4} and starts with number 5 and used number 9 for office 0; a
+-- proposal of kind 3 is on its link to office 0. Office 0 first proposes {0, 12}: office 3 has room for 181 bytes and
+-- answers 3. Office 0 answers 7 to the proposal of kind 3, and 12 to the one that office 3 makes. Then {12} leaves,
+-- {4} joins, and offices 0 and 1 agree on view 3.
 abbrev refusals : Scenario
 refusals =
     record {
@@ -106,7 +111,14 @@ refusals =
       posted =
           record {
             to = 0;
-            proposal = record { sender = 3; kind = 3; members = record { bits = 4097 }; start = 1; number = 1; used = three 0 0 0 };
+            proposal = record {
+              sender = 3;
+              kind = 3;
+              members = record { bits = 4097 };
+              start = 1;
+              number = 1;
+              used = three 0 0 0;
+            };
           } ∷ [];
       events =
           join 0 4097 ∷ delivery 0 3 181 ∷ hand 3 0 ∷ join 3 1 ∷ hand 3 0
@@ -130,10 +142,11 @@ refusals-summary :
 unfolding summary
 refusals-summary = refl
 
--- 5. Moshe's example 5.2. Offices 0 and 1 have agreed on {0, 4}, office 2 on {8}; then all three are told of {0, 4, 8} and propose with
--- start 2 and number 2. Office 0 hears both others and sends view 3 (event 9). It is told that seat 8 left and that it joined again: its
--- last proposal has number 4, start 4, used 2, 2, 2. Offices 1 and 2 still wait for each other. The used number 2 is their own: each
--- makes slow proposal 5, office 0 joins, and all send view 5.
+-- 5. Moshe's example 5.2. Offices 0 and 1 have agreed on {0, 4}, office 2 on {8}; then all three are told of {0, 4,
+-- 8} and propose with start 2 and number 2. Office 0 hears both others and sends view 3 (event 9). It is told that
+-- seat 8 left and that it joined again: its last proposal has number 4, start 4, used 2, 2, 2. Offices 1 and 2 still
+-- wait for each other. The used number 2 is their own: each makes slow proposal 5, office 0 joins, and all send view
+-- 5.
 abbrev overtaken : Scenario
 overtaken =
     record {
@@ -165,8 +178,9 @@ overtaken-summary :
 unfolding summary
 overtaken-summary = refl
 
--- 6. Repeats. Office 0 is told of {0, 4} twice before the last report of office 1 (event 2), which is told of it twice too. On the way office 0
--- is told that {0, 4, 8} joins and {8} leaves, and after both have sent view 2 that {4} joins and office 1 that {8} leaves: nothing comes of these.
+-- 6. Repeats. Office 0 is told of {0, 4} twice before the last report of office 1 (event 2), which is told of it
+-- twice too. On the way office 0 is told that {0, 4, 8} joins and {8} leaves, and after both have sent view 2 that
+-- {4} joins and office 1 that {8} leaves: nothing comes of these.
 abbrev repeating : Scenario
 repeating =
     record {

@@ -1,4 +1,5 @@
--- The reports that change the net view of an office: where it changes there is one, and an office of A that ends with A has a last one.
+-- The reports that change the net view of an office: where it changes there is one, and an office of A that ends with
+-- A has a last one.
 use mathlib.Core.Path.{_≡_, refl, sym, ap, subst, _∙_}
 use mathlib.Core.Bool.{false≢true}
 use mathlib.Core.List.{List}
@@ -38,7 +39,8 @@ module _ (A : ℕ) (states : ℕ → State) (links : ℕ → ℕ → List Item) 
 
   -- at the end it is that of the whole list
   pub net-at-end : (i : ℕ) → net i (length es) ≡ netBy (first A states links es) es i 0
-  net-at-end i = ap (λ (l : List WorldEvent). netBy (first A states links es) l i 0) (take-all (length es) es (omega arith))
+  net-at-end i = ap (λ (l : List WorldEvent). netBy (first A states links es) l i 0)
+      (take-all (length es) es (omega arith))
 
   -- the hypothesis that there is a last report costs nothing
   pub a-change : (i : ℕ) → OfA A i → netBy (first A states links es) es i 0 ≡ A → (n : ℕ) × LastChange A states links es i n

@@ -18,12 +18,20 @@ use Rattle.settling.proofs.Rounds.{rounds-later, renet-rounds, relink-r
 
 module _ (A : ℕ) (last : ℕ → ℕ) where
   pub core-later : {t : ℕ} {g : Offices} → NoLast A last t → Core A last t g → Core A last (t + 1) g
-  core-later n h = record { numbers = h .numbers; book = book-later A last n (h .book); rounds = rounds-later A last n (h .rounds) }
+  core-later n h = record {
+    numbers = h .numbers;
+    book = book-later A last n (h .book);
+    rounds = rounds-later A last n (h .rounds);
+  }
 
   module _ {s : ℕ} {g : Offices} (h : Core A last s g) where
     pub core-renet : (me x : ℕ) → s ≤ last me → Core A last s (renet g me x)
     core-renet me x e =
-        record { numbers = numbers-renet (serves A) g me x (h .numbers); book = renet-book A last s g me x h e; rounds = renet-rounds A last s g me x h }
+        record {
+          numbers = numbers-renet (serves A) g me x (h .numbers);
+          book = renet-book A last s g me x h e;
+          rounds = renet-rounds A last s g me x h;
+        }
 
     pub core-propose : {me : ℕ} {m : Mode} {p : Proposal} {t : ℕ} → Proposing A last g me m p t
         → ((i : ℕ) → OfA A i → (i ≡ me → ⊥) → last i < t + 1 → last i < s) → Core A last (t + 1) (propose g me m p t)
@@ -34,7 +42,8 @@ module _ (A : ℕ) (last : ℕ → ℕ) where
           rounds = propose-rounds A last s g me m p t h k b;
         }
 
-    pub core-receive : {me i : ℕ} {p : Proposal} {l : List Item} → Arrives (serves A) g me i p l → Core A last s (receive g me i p l)
+    pub core-receive : {me i : ℕ} {p : Proposal} {l : List Item} → Arrives (serves A) g me i p l
+        → Core A last s (receive g me i p l)
     core-receive {me} {i} {p} {l} k =
         record {
           numbers = numbers-receive (serves A) g me i p l (h .numbers) k;
@@ -42,7 +51,8 @@ module _ (A : ℕ) (last : ℕ → ℕ) where
           rounds = receive-rounds A last s g me i p l h k;
         }
 
-    pub core-relink : {i j place t : ℕ} → Losing A last g i j place t → Core A last s (relink g i j (without place (g .link i j)))
+    pub core-relink : {i j place t : ℕ} → Losing A last g i j place t
+        → Core A last s (relink g i j (without place (g .link i j)))
     core-relink {i} {j} {place} {t} k =
         record {
           numbers = numbers-relink (serves A) g i j place (h .numbers);
@@ -50,7 +60,8 @@ module _ (A : ℕ) (last : ℕ → ℕ) where
           rounds = relink-rounds A last s g i j place h;
         }
 
-  pub core-conclude : (t : ℕ) {g : Offices} {me : ℕ} → Core A last (t + 1) g → Concluding A last g me → Core A last (t + 1) (conclude g me t)
+  pub core-conclude : (t : ℕ) {g : Offices} {me : ℕ} → Core A last (t + 1) g → Concluding A last g me
+      → Core A last (t + 1) (conclude g me t)
   core-conclude t {g} {me} h k =
       record {
         numbers = numbers-conclude (serves A) g me t (h .numbers) (k .all-agree);
@@ -59,9 +70,16 @@ module _ (A : ℕ) (last : ℕ → ℕ) where
       }
 
   -- the slow test makes a proposal after the last report, or with no hope of being it
-  pub calling : {t me : ℕ} {g : Offices} {p : Proposal} → Core A last (t + 1) g → OfA A me → Proposes g me slow p → Proposing A last g me Slow p t
+  pub calling : {t me : ℕ} {g : Offices} {p : Proposal} → Core A last (t + 1) g → OfA A me → Proposes g me slow p
+      → Proposing A last g me Slow p t
   calling {me = me} h o k =
-      record { at-office = o; busy = λ e. let z : _≡_ {A = ℕ} 0 1 = cc in omega arith; makes = k; is-A = λ e. h .book .net-A me (o, omega arith) }
+      record {
+        at-office = o;
+        busy = λ e. let z : _≡_ {A = ℕ} 0 1 = cc in
+            omega arith;
+        makes = k;
+        is-A = λ e. h .book .net-A me (o, omega arith);
+      }
 
   -- a report makes its proposal with the new net view
   pub core-report : {g : Offices} {me x t : ℕ} {p : Proposal} → Core A last t g → Reported A last g me x t p
@@ -79,11 +97,13 @@ module _ (A : ℕ) (last : ℕ → ℕ) where
             is-A = λ e. unfold renet in upd-same (g .net) me x ∙ r .is-A (let l = r .open-yet in omega arith);
           }
 
-  pub core-slow-test : {t me : ℕ} {g h : Offices} → Core A last (t + 1) g → OfA A me → SlowTest t me g h → Core A last (t + 1) h
+  pub core-slow-test : {t me : ℕ} {g h : Offices} → Core A last (t + 1) g → OfA A me → SlowTest t me g h
+      → Core A last (t + 1) h
   core-slow-test c o (not-called s) = c
   core-slow-test c o (called p s k n) = core-propose c (calling c o k) (λ i a m l. l)
 
-  pub core-tests : {t me : ℕ} {g h : Offices} → Core A last (t + 1) g → OfA A me → Tests t me g h → Core A last (t + 1) h
+  pub core-tests : {t me : ℕ} {g h : Offices} → Core A last (t + 1) g → OfA A me → Tests t me g h
+      → Core A last (t + 1) h
   core-tests c o (both s (not-agreed n)) = core-slow-test c o s
   core-tests {t} c o (both s (agreed a)) = core-conclude t (core-slow-test c o s) (record { at-office = o; all-agree = a })
 

@@ -21,7 +21,8 @@ use Rattle.settling.specs.Statement.{between, onWay}
 links-count : (A me : ℕ) → (me < 16) × (serves A me ≡ true) → sum 16 (λ j. ifb (between A me j) 1 0) ≡ countOf A - 1
 links-count A me h =
     let z = others-count A me (h .0) (h .1) in
-    let e = sum-ext 16 (λ j. ifb (between A me j) 1 0) (λ j. ifb (serves A j && not (eqb j me)) 1 0) (λ j l. same j (ℕ-discrete j me)) in
+    let e = sum-ext 16 (λ j. ifb (between A me j) 1 0) (λ j. ifb (serves A j && not (eqb j me)) 1 0)
+    (λ j l. same j (ℕ-discrete j me)) in
     omega arith
   where
     same : (j : ℕ) → Dec (j ≡ me) → ifb {A = ℕ} (between A me j) 1 0 ≡ ifb (serves A j && not (eqb j me)) 1 0
@@ -41,7 +42,8 @@ module _ (A : ℕ) (w : List Item → ℕ) where
       → total (upd link me row) + rowOf me (link me) ≡ total link + rowOf me row
   unfolding total
   total-row link me row h =
-      let e = sum-one 16 (λ i. rowOf i (upd link me row i)) (λ i. rowOf i (link i)) me h (λ k n. ap (rowOf k) (upd-other link me row k n)) in
+      let e = sum-one 16 (λ i. rowOf i (upd link me row i)) (λ i. rowOf i (link i)) me h
+      (λ k n. ap (rowOf k) (upd-other link me row k n)) in
       let a : rowOf me (upd link me row me) ≡ rowOf me row = ap (rowOf me) (upd-same link me row) in
       omega arith
 
@@ -52,11 +54,13 @@ module _ (A : ℕ) (w : List Item → ℕ) where
   total-at link i j l hi hj =
       let a = total-row link i (upd (link i) j l) hi in
       let term : ℕ → List Item → ℕ = λ k x. ifb (between A i k) (w x) 0 in
-      let b = sum-one 16 (λ k. term k (upd (link i) j l k)) (λ k. term k (link i k)) j hj (λ k n. ap (term k) (upd-other (link i) j l k n)) in
+      let b = sum-one 16 (λ k. term k (upd (link i) j l k)) (λ k. term k (link i k)) j hj
+      (λ k n. ap (term k) (upd-other (link i) j l k n)) in
       let c : term j (upd (link i) j l j) ≡ term j l = ap (term j) (upd-same (link i) j l) in
       omega arith
 
-  pub total-link : (link : ℕ → ℕ → List Item) (i j : ℕ) (l : List Item) → (i < 16) × (serves A i ≡ true) → (j < 16) × (serves A j ≡ true)
+  pub total-link : (link : ℕ → ℕ → List Item) (i j : ℕ) (l : List Item) → (i < 16) × (serves A i ≡ true)
+      → (j < 16) × (serves A j ≡ true)
       → (i ≡ j → ⊥) → total (upd2 link i j l) + w (link i j) ≡ total link + w l
   total-link link i j l hi hj n =
       let b : between A i j ≡ true = rw (hi .1, hj .1, ne-eqb i j n) in
@@ -64,7 +68,8 @@ module _ (A : ℕ) (w : List Item → ℕ) where
 
   pub total-else : (link : ℕ → ℕ → List Item) (i j : ℕ) (l : List Item) → i < 16 → j < 16 → between A i j ≡ false
       → total (upd2 link i j l) ≡ total link
-  total-else link i j l hi hj a = let e : total (upd2 link i j l) + 0 ≡ total link + 0 = rw a at (total-at link i j l hi hj) in omega arith
+  total-else link i j l hi hj a = let e : total (upd2 link i j l) + 0 ≡ total link + 0 =
+      rw a at (total-at link i j l hi hj) in omega arith
 
   -- where each link from one office to another grows by c
   pub total-grow : (link : ℕ → ℕ → List Item) (me : ℕ) (row : ℕ → List Item) (c : ℕ) → (me < 16) × (serves A me ≡ true)
@@ -77,7 +82,8 @@ module _ (A : ℕ) (w : List Item → ℕ) where
       ≡ sum 16 (λ j. ifb (between A me j) (w (link me j)) 0 + ifb (between A me j) c 0)
       = sum-ext 16 _ _ (λ j lt. each j (between A me j) (e j)) in
       let d = sum-add 16 (λ j. ifb (between A me j) (w (link me j)) 0) (λ j. ifb (between A me j) c 0) in
-      let f : sum 16 (λ j. ifb (between A me j) c 0) ≡ (countOf A - 1) * c = rw (links-count A me h) at (sum-times 16 (between A me) c) in
+      let f : sum 16 (λ j. ifb (between A me j) c 0) ≡ (countOf A - 1) * c =
+      rw (links-count A me h) at (sum-times 16 (between A me) c) in
       omega arith
     where
       each : (j : ℕ) (t : Bool) → (t ≡ true → w (row j) ≡ w (link me j) + c)
@@ -86,7 +92,8 @@ module _ (A : ℕ) (w : List Item → ℕ) where
       each j false e = omega arith
 
 module _ (A : ℕ) where
-  pub total-mono : (w v : List Item → ℕ) (link : ℕ → ℕ → List Item) → ((l : List Item) → w l ≤ v l) → total A w link ≤ total A v link
+  pub total-mono : (w v : List Item → ℕ) (link : ℕ → ℕ → List Item) → ((l : List Item) → w l ≤ v l)
+      → total A w link ≤ total A v link
   unfolding total rowOf
   total-mono w v link h = sum-mono 16 _ _ (λ i hi. sum-mono 16 _ _ (λ j hj. each i j (between A i j)))
     where
@@ -107,7 +114,8 @@ module _ (A : ℕ) where
       → over f + g me ≡ over g + f me
   unfolding over
   over-one f g me h e =
-      let a = sum-one 16 (λ i. ifb (serves A i) (f i) 0) (λ i. ifb (serves A i) (g i) 0) me (h .0) (λ k n. ap (λ (v : ℕ). ifb (serves A k) v 0) (e k n)) in
+      let a = sum-one 16 (λ i. ifb (serves A i) (f i) 0) (λ i. ifb (serves A i) (g i) 0) me (h .0)
+      (λ k n. ap (λ (v : ℕ). ifb (serves A k) v 0) (e k n)) in
       let b : ifb (serves A me) (f me) 0 ≡ f me = rw (h .1) in
       let c : ifb (serves A me) (g me) 0 ≡ g me = rw (h .1) in
       omega arith
@@ -115,7 +123,8 @@ module _ (A : ℕ) where
   pub over-bound : (f : ℕ → ℕ) (c : ℕ) → ((i : ℕ) → (i < 16) × (serves A i ≡ true) → f i ≤ c) → over f ≤ countOf A * c
   unfolding over
   over-bound f c h =
-      let a = sum-mono 16 (λ i. ifb (serves A i) (f i) 0) (λ i. ifb (serves A i) c 0) (λ i hi. each i (serves A i) (λ s. h i (hi, s))) in
+      let a = sum-mono 16 (λ i. ifb (serves A i) (f i) 0) (λ i. ifb (serves A i) c 0)
+      (λ i hi. each i (serves A i) (λ s. h i (hi, s))) in
       let b : sum 16 (λ i. ifb (serves A i) c 0) ≡ countOf A * c = rw (← count-sum A) at (sum-times 16 (serves A) c) in
       omega arith
     where
@@ -135,7 +144,8 @@ module _ (T : ℕ) where
   pub older-length : (l : List Item) → older l ≤ length l
   unfolding older
   older-length [] = omega arith
-  older-length (x ∷ l) = let a = older-length l in let b = if-le (ltb (x .sent) T) 1 0 1 (omega arith) (omega arith) in omega arith
+  older-length (x ∷ l) = let a = older-length l in
+      let b = if-le (ltb (x .sent) T) 1 0 1 (omega arith) (omega arith) in omega arith
 
   -- what is added now is not old
   pub older-snoc : (l : List Item) (x : Item) → T ≤ x .sent → older (l ++ (x ∷ [])) ≡ older l
@@ -162,7 +172,8 @@ upTo n (m ∷ r) = ifb (ltb n m) 0 1 + upTo n r
 pub upTo-length : (n : ℕ) (r : List ℕ) → upTo n r ≤ length r
 unfolding upTo
 upTo-length n [] = omega arith
-upTo-length n (m ∷ r) = let a = upTo-length n r in let b = if-le (ltb n m) 0 1 1 (omega arith) (omega arith) in omega arith
+upTo-length n (m ∷ r) = let a = upTo-length n r in let b = if-le (ltb n m) 0 1 1 (omega arith) (omega arith) in
+    omega arith
 
 upTo-entry : (n m x : ℕ) → n ≤ m → ifb {A = ℕ} (ltb n x) 0 1 ≤ ifb (ltb m x) 0 1
 upTo-entry n m x h = go (ltb n x) (ltb m x) refl refl

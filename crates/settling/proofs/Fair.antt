@@ -120,20 +120,24 @@ module _ (A : ℕ) (last : ℕ → ℕ) where
   -- what an event does is what it does where the hypotheses hold
   module _ (w : World) (g : Offices) (s : SeenAll (serves A) w g) where
     -- an office of A as it stands in arrays before and after the event
-    moved-net : (e : WorldEvent) (h : Offices) → SeenAll (serves A) (next w e) h → (me : ℕ) → OfA A me → h .net me ≡ next w e .state me .net .bits
+    moved-net : (e : WorldEvent) (h : Offices) → SeenAll (serves A) (next w e) h → (me : ℕ) → OfA A me
+        → h .net me ≡ next w e .state me .net .bits
     moved-net e h v me o = sym (v .sim me o (below-sixteen (serves A) (o .0)) .net)
 
     same-net : (me : ℕ) → OfA A me → w .state me .net .bits ≡ g .net me
     same-net me o = s .sim me o (below-sixteen (serves A) (o .0)) .net
 
-    renewed : (e : WorldEvent) (h : Offices) → SeenAll (serves A) (next w e) h → (me : ℕ) → OfA A me → (h .net me ≡ g .net me → ⊥) → Renewed w e me
+    renewed : (e : WorldEvent) (h : Offices) → SeenAll (serves A) (next w e) h → (me : ℕ) → OfA A me
+        → (h .net me ≡ g .net me → ⊥) → Renewed w e me
     renewed e h v me o n z = n (moved-net e h v me o ∙ z ∙ same-net me o)
 
     -- the net view that the last report leaves
-    net-after : (e : WorldEvent) (h : Offices) → Fair w e → SeenAll (serves A) (next w e) h → (me : ℕ) → OfA A me → last me ≡ w .clock → h .net me ≡ A
+    net-after : (e : WorldEvent) (h : Offices) → Fair w e → SeenAll (serves A) (next w e) h → (me : ℕ) → OfA A me
+        → last me ≡ w .clock → h .net me ≡ A
     net-after e h f v me o l = moved-net e h v me o ∙ f .final me o l
 
-    untouched : (e : WorldEvent) → Among e → Fair w e → Apart (serves A) w e → HappensFairly A last (w .clock) (deliveryOne A w e) g g
+    untouched : (e : WorldEvent) → Among e → Fair w e → Apart (serves A) w e
+        → HappensFairly A last (w .clock) (deliveryOne A w e) g g
     untouched (report o r room) m f a = fair-idle (none-due w o r room f (λ q. absurd (a q)))
     untouched (delivery i j room) m f a = rw (counted-out A w i j room a (m .0) (m .1)) (fair-idle (due-at-delivery w i j room f))
     untouched (loss i j place) m f a = fair-idle (due-at-loss w i j place f)
@@ -141,9 +145,11 @@ module _ (A : ℕ) (last : ℕ → ℕ) where
     arrival : (i me room : ℕ) (p : Proposal) (l : List Item) → Arrives (serves A) g me i p l → deliveryOne A w (delivery i me room) ≡ ifb (serves A i) 1 0
     arrival i me room p l a =
         counted-in A w i me room (a .at-office) (a .others)
-        (λ e. let o = a .oldest (a .from-office, e) in (o .0, l, s .links i me ((a .from-office, e), a .at-office .0, a .others) ∙ o .1))
+        (λ e. let o = a .oldest (a .from-office, e) in
+        (o .0, l, s .links i me ((a .from-office, e), a .at-office .0, a .others) ∙ o .1))
 
-    pub fair-acts : {e : WorldEvent} {h : Offices} → Among e → Fair w e → Happens (serves A) w e g h → SeenAll (serves A) (next w e) h
+    pub fair-acts : {e : WorldEvent} {h : Offices} → Among e → Fair w e → Happens (serves A) w e g h
+        → SeenAll (serves A) (next w e) h
         → HappensFairly A last (w .clock) (deliveryOne A w e) g h
     fair-acts {e} m f (idles a) v = untouched e m f a
     fair-acts m f (refuses o b) v = absurd (not-barred f o (to-report _ _ _) b)
@@ -153,7 +159,12 @@ module _ (A : ℕ) (last : ℕ → ℕ) where
     fair-acts m f (loses {i = i} {j = j} {place = place} k) v =
         let same = s .links i j k in
         fair-loss i j place (due-at-loss w i j place f)
-        (record { from-office = k .0; to-office = k .1; others = k .2; early = λ oj x lt e. f .keeps i j place x (k .0) oj refl (rw same lt) (rw same e) })
+        (record {
+          from-office = k .0;
+          to-office = k .1;
+          others = k .2;
+          early = λ oj x lt e. f .keeps i j place x (k .0) oj refl (rw same lt) (rw same e);
+        })
     fair-acts m f (drops {i = i} {j = j} {room = room} k b) v =
         let out : OfA A j → ⊥ = λ oj. let r = b oj in not-barred f oj (r .1) (r .2) in
         rw (counted-out A w i j room (λ a c. absurd (out c)) (m .0) (m .1)) (fair-loss i j 0 (due-at-delivery w i j room f)
@@ -167,7 +178,9 @@ module _ (A : ℕ) (last : ℕ → ℕ) where
             let a : x ≡ A = sym (renet-net g me x) ∙ net-after (report me r room) (renet g me x) f v me o l in
             true-false _ (ap (λ (y : ℕ). serves y me) a ∙ o .1) b
     fair-acts {h = h} m f (reports {me = me} {room = room} {r = r} x p o c k t) v =
-        let is-x : h .net me ≡ x = ap (λ (y : ℕ → ℕ). y me) (tests-net t ∙ propose-net (renet g me x) me Fast p (w .clock)) ∙ renet-net g me x in
+        let is-x : h .net me ≡ x =
+        ap (λ (y : ℕ → ℕ). y me) (tests-net t ∙ propose-net (renet g me x) me Fast p (w .clock))
+        ∙ renet-net g me x in
         fair-report me x p (record {
           at-office = o;
           open-yet = f .not-after me o (renewed (report me r room) h v me o (λ z. c (sym is-x ∙ z)));

@@ -1,5 +1,5 @@
--- What the last reports, those that change a net view for the last time, add to the invariants of the runs. Before event t the last report of
--- office i has come where last i < t.
+-- What the last reports, those that change a net view for the last time, add to the invariants of the runs. Before
+-- event t the last report of office i has come where last i < t.
 use mathlib.Core.Path.{_≡_}
 use mathlib.Core.Bool.{false}
 use mathlib.Core.Logic.{_⊎_}
@@ -53,7 +53,8 @@ module _ (A : ℕ) (last : ℕ → ℕ) where
     pub at-office : OfA A me
     pub all-agree : Agreed g me
 
-  -- an item on the link from i to j is lost at event t; between offices of A none that was sent from the last report on
+  -- an item on the link from i to j is lost at event t; between offices of A none that was sent from the last report
+  -- on
   pub record Losing (g : Offices) (i j place t : ℕ) : Type 0 where
     pub from-office : OfA A i
     pub to-office : j < 16
@@ -73,11 +74,13 @@ module _ (A : ℕ) (last : ℕ → ℕ) where
 
   -- where the last proposal of office i is, seen from office j
   pub data Place (g : Offices) (i j : ℕ) : Type 0 where
-    on-its-way : (l : List Item) (x : Item) → g .link i j ≡ l ++ (x ∷ []) → x .proposal ≡ g .made i → last i ≤ x .sent → Place g i j
+    on-its-way : (l : List Item) (x : Item) → g .link i j ≡ l ++ (x ∷ []) → x .proposal ≡ g .made i → last i ≤ x .sent
+        → Place g i j
     is-stored : g .link i j ≡ [] → g .stored j i ≡ keeping (g .made i) → Place g i j
     counted : g .link i j ≡ [] → g .stored j i .present ≡ false → g .used j i ≡ g .num i → Place g i j
 
-  -- What every part of an event keeps, of two offices i and j of A. After the last report: the net view and the last proposal.
+  -- What every part of an event keeps, of two offices i and j of A. After the last report: the net view and the last
+  -- proposal.
   pub record Book (t : ℕ) (g : Offices) : Type 0 where
     -- both are of A
     pub net-A : (i : ℕ) → Done t i → g .net i ≡ A
@@ -94,20 +97,25 @@ module _ (A : ℕ) (last : ℕ → ℕ) where
     -- while a round is open the own proposal is stored
     pub own-stored : (i : ℕ) → Done t i → (g .mode i ≡ None → ⊥) → g .stored i i ≡ keeping (g .made i)
     pub own-kind : (i : ℕ) → Done t i → (g .mode i ≡ None → ⊥) → g .made i .kind ≡ kindOf (g .mode i)
-    pub own-used : (i j : ℕ) → Done t i → OfA A j → (i ≡ j → ⊥) → (g .mode i ≡ None → ⊥) → usedFor (g .made i) j ≡ g .used i j
+    pub own-used : (i j : ℕ) → Done t i → OfA A j → (i ≡ j → ⊥) → (g .mode i ≡ None → ⊥)
+        → usedFor (g .made i) j ≡ g .used i j
     -- the view that ended the round: of A, sent since the last report, with the own start number
     pub viewed : (i : ℕ) → Done t i → g .mode i ≡ None
-        → (s : ℕ) × (vs : List SentView) × (g .shown i ≡ record { view = viewWith A (g .seen i); sent = s } ∷ vs) × (last i ≤ s)
+        → (s : ℕ) × (vs : List SentView) × (g .shown i ≡ record { view = viewWith A (g .seen i); sent = s } ∷ vs)
+        × (last i ≤ s)
     pub viewed-own : (i : ℕ) → Done t i → g .mode i ≡ None → g .seen i i ≡ g .made i .start
     -- a view that counted the last proposal of i was of the same kind and round, and has its start number;
     -- or it is old: the last proposal of j was made after it
     pub counts : (i j : ℕ) → Done t i → Done t j → (i ≡ j → ⊥) → g .mode j ≡ None → g .used j i ≡ g .num i
         → (usedFor (g .made j) i ≡ g .num i)
-        ⊎ ((g .made i .kind ≡ g .made j .kind) × (g .made i .kind ≡ slow → g .num i ≡ g .num j) × (g .seen j i ≡ g .made i .start))
+        ⊎ ((g .made i .kind ≡ g .made j .kind) × (g .made i .kind ≡ slow → g .num i ≡ g .num j)
+        × (g .seen j i ≡ g .made i .start))
     -- a slow round counts only the own number
-    pub slow-used : (i j : ℕ) → Done t i → OfA A j → (i ≡ j → ⊥) → g .mode i ≡ None → g .made i .kind ≡ slow → g .used i j ≡ g .num i
+    pub slow-used : (i j : ℕ) → Done t i → OfA A j → (i ≡ j → ⊥) → g .mode i ≡ None → g .made i .kind ≡ slow
+        → g .used i j ≡ g .num i
     -- who has used a slow proposal is not behind it, and tells so only by a higher number
-    pub not-behind : (i j : ℕ) → Done t i → OfA A j → (i ≡ j → ⊥) → g .made i .kind ≡ slow → g .used j i ≡ g .num i → g .num i ≤ g .num j
+    pub not-behind : (i j : ℕ) → Done t i → OfA A j → (i ≡ j → ⊥) → g .made i .kind ≡ slow → g .used j i ≡ g .num i
+        → g .num i ≤ g .num j
     pub tells-above : (i j : ℕ) → Done t i → OfA A j → (i ≡ j → ⊥) → g .made i .kind ≡ slow
         → Every (λ x. usedFor (x .proposal) i ≡ g .num i → g .num i < x .proposal .number) (g .link j i)
 
@@ -121,4 +129,5 @@ module _ (A : ℕ) (last : ℕ → ℕ) where
     pub core : Core t g
     pub tested : (i : ℕ) → Done t i → AfterTests g i
     -- a used number that is current has not arrived
-    pub not-arrived : (i j : ℕ) → Done t i → Done t j → (i ≡ j → ⊥) → usedFor (g .made i) j ≡ g .num j → g .link i j ≡ [] → ⊥
+    pub not-arrived : (i j : ℕ) → Done t i → Done t j → (i ≡ j → ⊥) → usedFor (g .made i) j ≡ g .num j
+        → g .link i j ≡ [] → ⊥

@@ -9,7 +9,8 @@ use Rattle.laws.proofs.Upd.{upd-same, upd-other}
 use Rattle.records.specs.declared.Proposal.{Proposal}
 use Rattle.rules.specs.State.{Mode, None, Fast, Slow, fast, slow, kindOf, keeping, usedFor}
 use Rattle.runs.specs.World.{Item}
-use Rattle.runs.proofs.Arrays.{Offices, receive, Match, other, Calls, in-none, heard-slow, is-used, above-own, Joinable, Chosen, joins, starts}
+use Rattle.runs.proofs.Arrays.{Offices, receive, Match, other, Calls, in-none, heard-slow, is-used, above-own}
+use Rattle.runs.proofs.Arrays.{Joinable, Chosen, joins, starts}
 use Rattle.settling.specs.Statement.{OfA}
 use Rattle.settling.proofs.Invariants.{Done, Inv}
 use Rattle.runs.proofs.Links.{rising-head}
@@ -19,12 +20,14 @@ arrived : (g : Offices) (me i : ℕ) (p : Proposal) (l : List Item) → receive 
 unfolding receive
 arrived g me i p l = rw (upd-same (g .stored) me, upd-same (g .stored me) i (keeping p))
 
-arrived-else : (g : Offices) (me i : ℕ) (p : Proposal) (l : List Item) (o : ℕ) → (o ≡ i → ⊥) → receive g me i p l .stored me o ≡ g .stored me o
+arrived-else : (g : Offices) (me i : ℕ) (p : Proposal) (l : List Item) (o : ℕ) → (o ≡ i → ⊥)
+    → receive g me i p l .stored me o ≡ g .stored me o
 unfolding receive
 arrived-else g me i p l o n = rw (upd-same (g .stored) me, upd-other (g .stored me) i (keeping p) o n)
 
 -- the item x arrives at office me from office i of A, and matches
-pub record Matched (A : ℕ) (last : ℕ → ℕ) (t : ℕ) (g : Offices) (me i : ℕ) (p : Proposal) (l : List Item) (x : Item) : Type 0 where
+pub record Matched (A : ℕ) (last : ℕ → ℕ) (t : ℕ) (g : Offices) (me i : ℕ) (p : Proposal) (l : List Item)
+    (x : Item) : Type 0 where
   pub at : Done A last t me
   pub from : OfA A i
   pub others : i ≡ me → ⊥
@@ -33,7 +36,8 @@ pub record Matched (A : ℕ) (last : ℕ → ℕ) (t : ℕ) (g : Offices) (me i 
   pub matches : p .members .bits ≡ g .net me
 
 module _
-    {A : ℕ} {last : ℕ → ℕ} {t : ℕ} {g : Offices} {me i : ℕ} {p : Proposal} {l : List Item} {x : Item} (inv : Inv A last t g)
+    {A : ℕ} {last : ℕ → ℕ} {t : ℕ} {g : Offices} {me i : ℕ} {p : Proposal} {l : List Item} {x : Item}
+    (inv : Inv A last t g)
     (a : Matched A last t g me i p l x) (its-kind : p .kind ≡ slow) (own-kind : g .made me .kind ≡ slow)
   where
     abbrev after : Offices
@@ -50,7 +54,8 @@ module _
         omega arith
 
     -- no other stored proposal calls or can be joined
-    others-low : (o : ℕ) → o < 16 → (o ≡ me → ⊥) → Match g me o → other g me o .kind ≡ slow → other g me o .number ≤ g .num me
+    others-low : (o : ℕ) → o < 16 → (o ≡ me → ⊥) → Match g me o → other g me o .kind ≡ slow
+        → other g me o .number ≤ g .num me
     others-low o ho n m k = go (g .mode me) refl
       where
         go : (v : Mode) → g .mode me ≡ v → other g me o .number ≤ g .num me
@@ -81,10 +86,14 @@ module _
         go : Dec (o ≡ i) → g .num me < p .number
         go (yes e) =
             let s : after .stored me o ≡ keeping p = rw e (arrived g me i p l) in
-            let f = every-head (rw (a .oldest) at (inv .core .rounds .tells-above me i (a .at) (a .from) (λ z. a .others (sym z)) own-kind)) in
+            let f = every-head
+            (rw (a .oldest) at (inv .core .rounds .tells-above me i (a .at) (a .from) (λ z. a .others (sym z))
+            own-kind)) in
             let b : usedFor p me ≡ g .num me = rw (s, other) at u in
             rw (a .same) at (f (rw (a .same) b))
-        go (no e) = absurd (others-unused o ho n (rw (arrived-else g me i p l o e) at m) (rw (arrived-else g me i p l o e, other) at u))
+        go (no e) = absurd
+            (others-unused o ho n (rw (arrived-else g me i p l o e) at m)
+            (rw (arrived-else g me i p l o e, other) at u))
     x-above (above-own e o ho n m k c) = go (ℕ-discrete o i)
       where
         go : Dec (o ≡ i) → g .num me < p .number
@@ -92,7 +101,8 @@ module _
             let s : after .stored me o ≡ keeping p = rw e (arrived g me i p l) in
             rw (s, other) at c
         go (no e) =
-            let b = others-low o ho n (rw (arrived-else g me i p l o e) at m) (rw (arrived-else g me i p l o e, other) at k) in
+            let b = others-low o ho n (rw (arrived-else g me i p l o e) at m)
+            (rw (arrived-else g me i p l o e, other) at k) in
             let d : g .num me < other g me o .number = rw (arrived-else g me i p l o e, other) at c in
             omega arith
 
@@ -115,5 +125,6 @@ module _
         let s : after .stored me o ≡ keeping p = rw (only-x o j) (arrived g me i p l) in
         rw (s, other) at e
     joined c (starts z) =
-        let j : Joinable after me i = rw (arrived g me i p l, other) (a .from .0, a .others, (refl, a .matches), its-kind, x-above c) in
+        let j : Joinable after me i =
+        rw (arrived g me i p l, other) (a .from .0, a .others, (refl, a .matches), its-kind, x-above c) in
         absurd (z i j)

@@ -1,4 +1,5 @@
--- The last proposal of an office whose last report has come, after each part of an event: of A, and on its way, stored or counted.
+-- The last proposal of an office whose last report has come, after each part of an event: of A, and on its way,
+-- stored or counted.
 use mathlib.Core.Path.{_≡_, refl, sym, ap, _∙_}
 use mathlib.Core.Bool.{true, false}
 use mathlib.Core.Logic.{_⊎_, ⊎-elim}
@@ -26,7 +27,8 @@ module _ (A : ℕ) (last : ℕ → ℕ) where
   DoneTo t i j X = Done A last t i → OfA A j → (i ≡ j → ⊥) → X
 
   -- where the parts of two offices that it speaks of are the same, so is the place
-  place-same : (g k : Offices) (i j : ℕ) → k .link i j ≡ g .link i j → k .stored j i ≡ g .stored j i → k .used j i ≡ g .used j i
+  place-same : (g k : Offices) (i j : ℕ) → k .link i j ≡ g .link i j → k .stored j i ≡ g .stored j i
+      → k .used j i ≡ g .used j i
       → k .num i ≡ g .num i → k .made i ≡ g .made i → Place A last g i j → Place A last k i j
   place-same g k i j el es eu en em (on-its-way l x e m s) = on-its-way l x (el ∙ e) (m ∙ sym em) s
   place-same g k i j el es eu en em (is-stored e m) = is-stored (el ∙ e) (es ∙ m ∙ ap (λ p. keeping p) (sym em))
@@ -92,14 +94,16 @@ module _ (A : ℕ) (last : ℕ → ℕ) where
           made-used = h .book .made-used;
         }
 
-  module _ (t : ℕ) (g : Offices) (me i : ℕ) (p : Proposal) (l : List Item) (h : Core A last t g) (arrives : Arrives (serves A) g me i p l) where
+  module _ (t : ℕ) (g : Offices) (me i : ℕ) (p : Proposal) (l : List Item) (h : Core A last t g)
+      (arrives : Arrives (serves A) g me i p l) where
     abbrev got : Offices
     got = receive g me i p l
 
     not-empty : OfA A i → g .link i me ≡ [] → ⊥
     not-empty oi e = let z : _≡_ {A = ℕ} 0 1 = cc (arrives .oldest oi .1) in omega arith
 
-    got-place : got .stored me i ≡ keeping p → got .link i me ≡ l → OfA A i → Place A last g i me → Place A last got i me
+    got-place : got .stored me i ≡ keeping p → got .link i me ≡ l → OfA A i → Place A last g i me
+        → Place A last got i me
     unfolding receive
     got-place es el oi (on-its-way k x e m s) =
         let y = arrives .oldest oi in
@@ -122,42 +126,51 @@ module _ (A : ℕ) (last : ℕ → ℕ) where
               λ a b. receive-cases g me i p l
               (λ b a s n k. got .stored b a ≡ s → got .link a b ≡ k → DoneTo t a b (Place A last got a b))
               (λ es el d ob ne. got-place es el (d .0) (h .book .place i me d ob ne))
-              (λ b a es el d ob ne. place-same g got a b el es refl refl refl (h .book .place a b d ob ne)) b a refl refl;
+              (λ b a es el d ob ne. place-same g got a b el es refl refl refl (h .book .place a b d ob ne)) b a refl
+              refl;
           made-used = h .book .made-used;
         }
 
   -- made at event t, where before it the last reports before s had come
-  module _ (s : ℕ) (g : Offices) (me : ℕ) (m : Mode) (p : Proposal) (t : ℕ) (h : Core A last s g) (makes : Proposing A last g me m p t)
+  module _ (s : ℕ) (g : Offices) (me : ℕ) (m : Mode) (p : Proposal) (t : ℕ) (h : Core A last s g)
+      (makes : Proposing A last g me m p t)
       (before : (i : ℕ) → OfA A i → (i ≡ me → ⊥) → last i < t + 1 → last i < s) where
     abbrev said : Offices
     said = propose g me m p t
 
-    said-mail : (b : ℕ) → last me ≤ t → OfA A b → (me ≡ b → ⊥) → g .link me b ++ mailTo t p b ≡ g .link me b ++ (itemOf t p ∷ [])
+    said-mail : (b : ℕ) → last me ≤ t → OfA A b → (me ≡ b → ⊥) → g .link me b ++ mailTo t p b ≡ g .link me b
+        ++ (itemOf t p ∷ [])
     said-mail b e ob ne =
         let s : serves (p .members .bits) b ≡ true = rw (makes .makes .of-net, makes .is-A e) (ob .1) in
         let z : eqb b (p .sender) ≡ false = ne-eqb b (p .sender) (λ q. ne (sym (makes .makes .from) ∙ sym q)) in
         rw (s, z)
 
     -- after the last report
-    said-done : (P : ℕ → ℕ → Proposal → (ℕ → List Item) → Type 0) → (last me ≤ t → P me (p .number) p (λ j. g .link me j ++ mailTo t p j))
+    said-done : (P : ℕ → ℕ → Proposal → (ℕ → List Item) → Type 0)
+        → (last me ≤ t → P me (p .number) p (λ j. g .link me j ++ mailTo t p j))
         → ((a : ℕ) → Done A last s a → P a (g .num a) (g .made a) (g .link a))
         → (a : ℕ) → Done A last (t + 1) a → P a (said .num a) (said .made a) (said .link a)
     said-done P at old a f =
-        propose-cases g me m p t (λ a n q r. OfA A a → last a < t + 1 → P a n q r) (λ o e. at (omega arith)) (λ a n o e. old a (o, before a o n e)) a (f .0) (f .1)
+        propose-cases g me m p t (λ a n q r. OfA A a → last a < t + 1 → P a n q r) (λ o e. at (omega arith))
+        (λ a n o e. old a (o, before a o n e)) a (f .0) (f .1)
 
     pub propose-book : Book A last (t + 1) said
     unfolding propose
     propose-book =
         record {
           net-A = said-done (λ a n q r. g .net a ≡ A) (makes .is-A) (h .book .net-A);
-          made-A = said-done (λ a n q r. q .members .bits ≡ A) (λ e. makes .makes .of-net ∙ makes .is-A e) (h .book .made-A);
+          made-A = said-done (λ a n q r. q .members .bits ≡ A) (λ e. makes .makes .of-net ∙ makes .is-A e)
+              (h .book .made-A);
           made-num = said-done (λ a n q r. q .number ≡ n) (λ e. refl) (h .book .made-num);
           made-kind =
-              said-done (λ a n q r. (q .kind ≡ fast) ⊎ (q .kind ≡ slow)) (λ e. rw (makes .makes .of-kind) (kinds m (makes .busy))) (h .book .made-kind);
+              said-done (λ a n q r. (q .kind ≡ fast) ⊎ (q .kind ≡ slow))
+              (λ e. rw (makes .makes .of-kind) (kinds m (makes .busy))) (h .book .made-kind);
           place =
               λ a b f. said-done
-              (λ a n q r. said .num a ≡ n → said .made a ≡ q → said .link a ≡ r → OfA A b → (a ≡ b → ⊥) → Place A last said a b)
-              (λ e en em el ob ne. on-its-way (g .link me b) (itemOf t p) (ap (λ r. r b) el ∙ said-mail b e ob ne) (sym em) e)
+              (λ a n q r. said .num a ≡ n → said .made a ≡ q → said .link a ≡ r → OfA A b → (a ≡ b → ⊥)
+              → Place A last said a b)
+              (λ e en em el ob ne. on-its-way (g .link me b) (itemOf t p) (ap (λ r. r b) el ∙ said-mail b e ob ne)
+              (sym em) e)
               (λ a f en em el ob ne.
               let s = said-stored g me m p t (λ s. s ≡ g .stored b a) b a (λ q. ne (sym q)) refl in
               place-same g said a b (ap (λ r. r b) el) s refl en em (h .book .place a b f ob ne))
@@ -173,7 +186,8 @@ module _ (A : ℕ) (last : ℕ → ℕ) where
     abbrev agreed : Offices
     agreed = conclude g me t
 
-    agreed-place : (a : ℕ) → serves (g .net me) a ≡ true → agreed .stored me a ≡ nothing → agreed .used me a ≡ numberIn (g .stored me a)
+    agreed-place : (a : ℕ) → serves (g .net me) a ≡ true → agreed .stored me a ≡ nothing
+        → agreed .used me a ≡ numberIn (g .stored me a)
         → Done A last s a → Place A last g a me → Place A last agreed a me
     unfolding conclude
     agreed-place a v es eu d (on-its-way l x e m s) = on-its-way l x e m s
@@ -194,6 +208,7 @@ module _ (A : ℕ) (last : ℕ → ℕ) where
               λ a b. conclude-cases g me t
               (λ b a v u. agreed .stored b a ≡ v → agreed .used b a ≡ u → DoneTo s a b (Place A last agreed a b))
               (λ a v es eu d ob ne. agreed-place a v es eu d (h .book .place a me d ob ne))
-              (λ b a es eu d ob ne. place-same g agreed a b refl es eu refl refl (h .book .place a b d ob ne)) b a refl refl;
+              (λ b a es eu d ob ne. place-same g agreed a b refl es eu refl refl (h .book .place a b d ob ne)) b a
+              refl refl;
           made-used = h .book .made-used;
         }

@@ -1,10 +1,12 @@
--- The hypotheses of the settling rule are needed: for each of seven a scenario that fails this one alone. At its end nothing is on its way
--- between offices 0 and 1, and their latest views are not one view of {0, 4} sent since their last reports. (A is {0, 4}, that is 17.)
+-- The hypotheses of the settling rule are needed: for each of seven a scenario that fails this one alone. At its end
+-- nothing is on its way between offices 0 and 1, and their latest views are not one view of {0, 4} sent since their
+-- last reports. (A is {0, 4}, that is 17.)
 use mathlib.Core.Path.{_≡_, refl}
 use mathlib.Core.List.{[], _∷_}
 use Rattle.rules.specs.State.{zeros}
 use Rattle.runs.specs.World.{report, delivery, loss}
-use Rattle.settling.specs.Scenarios.{Scenario, starts-fresh, no-mail, others-pass, net-is-A, full-room, no-ceiling, none-lost}
+use Rattle.settling.specs.Scenarios.{Scenario, starts-fresh, no-mail, others-pass, net-is-A, full-room}
+use Rattle.settling.specs.Scenarios.{no-ceiling, none-lost}
 use Rattle.settling.specs.Scenarios.{fails, failsByReport, summary, no-view, sent-at, join, hand, inNone, three}
 
 -- none-lost: office 0's only proposal is lost after its last report. Office 0 sends view 2, office 1 none.
@@ -27,10 +29,17 @@ lost-after-summary :
 unfolding summary
 lost-after-summary = refl
 
--- The same loss, and then a repeat: where the last report in the list counted, also one that changes nothing, no hypothesis would fail.
+-- The same loss, and then a repeat: where the last report in the list counted, also one that changes nothing, no
+-- hypothesis would fail.
 abbrev lost-before-repeat : Scenario
 lost-before-repeat =
-    record { set = 17; begun = []; posted = []; events = join 0 17 ∷ join 1 17 ∷ loss 0 1 0 ∷ join 0 17 ∷ hand 1 0 ∷ [] }
+    record {
+      set = 17;
+      begun = [];
+      posted = [];
+      events = join 0 17 ∷ join 1 17 ∷ loss 0 1 0 ∷ join 0 17 ∷ hand 1 0
+          ∷ [];
+    }
 
 lost-before-repeat-summary :
     summary lost-before-repeat
@@ -52,7 +61,8 @@ lost-before-repeat-by-report : failsByReport lost-before-repeat ≡ []
 unfolding summary
 lost-before-repeat-by-report = refl
 
--- net-is-A: office 1's last report leaves it with {4} alone, so that it sends a view of its own seat at once. Office 0 waits.
+-- net-is-A: office 1's last report leaves it with {4} alone, so that it sends a view of its own seat at once. Office
+-- 0 waits.
 abbrev net-differs : Scenario
 net-differs = record { set = 17; begun = []; posted = []; events = join 0 17 ∷ join 1 16 ∷ hand 0 1 ∷ [] }
 
@@ -74,7 +84,13 @@ net-differs-summary = refl
 
 -- full-room: office 1 has room for 181 bytes when office 0's proposal comes, and answers 3.
 abbrev no-room : Scenario
-no-room = record { set = 17; begun = []; posted = []; events = join 0 17 ∷ join 1 17 ∷ delivery 0 1 181 ∷ hand 1 0 ∷ [] }
+no-room = record {
+  set = 17;
+  begun = [];
+  posted = [];
+  events = join 0 17 ∷ join 1 17 ∷ delivery 0 1 181 ∷ hand 1 0
+      ∷ [];
+}
 
 no-room-summary :
     summary no-room
@@ -99,15 +115,18 @@ repeat-without-room =
       set = 17;
       begun = [];
       posted = [];
-      events = join 0 17 ∷ join 1 17 ∷ report 0 (record { joining = record { bits = 17 }; leaving = record { bits = 0 } }) 181 ∷ hand 0 1 ∷ hand 1 0 ∷ [];
+      events = join 0 17 ∷ join 1 17
+          ∷ report 0 (record { joining = record { bits = 17 }; leaving = record { bits = 0 } }) 181 ∷ hand 0 1
+          ∷ hand 1 0 ∷ [];
     }
 
 repeat-without-room-fails : fails repeat-without-room ≡ full-room ∷ []
 unfolding summary
 repeat-without-room-fails = refl
 
--- no-ceiling: offices 0 and 1 send view 2. Office 0 then agrees with office 2 on {0, 8}, in a slow round of number L - 1 (event 5: view 3),
--- and goes back to {0, 4}: its fast proposal has number L. Office 1 in mode none would make number L + 1, and answers 13.
+-- no-ceiling: offices 0 and 1 send view 2. Office 0 then agrees with office 2 on {0, 8}, in a slow round of number L
+-- - 1 (event 5: view 3), and goes back to {0, 4}: its fast proposal has number L. Office 1 in mode none would make
+-- number L + 1, and answers 13.
 abbrev at-ceiling : Scenario
 at-ceiling =
     record {
@@ -117,7 +136,14 @@ at-ceiling =
           record {
             to = 0;
             proposal =
-                record { sender = 2; kind = 2; members = record { bits = 257 }; start = 1; number = 1_999_999_999; used = three 0 0 0 };
+                record {
+                  sender = 2;
+                  kind = 2;
+                  members = record { bits = 257 };
+                  start = 1;
+                  number = 1_999_999_999;
+                  used = three 0 0 0;
+                };
           } ∷ [];
       events =
           join 0 17 ∷ join 1 17 ∷ hand 0 1 ∷ hand 1 0
@@ -167,8 +193,8 @@ not-fresh-summary :
 unfolding summary
 not-fresh-summary = refl
 
--- no-mail: a proposal with start 7 and number 9 is on the link from office 0 to office 1 at first. Office 1 counts it into view 8 and answers
--- 11 to the one that office 0 makes; office 0 sends view 2.
+-- no-mail: a proposal with start 7 and number 9 is on the link from office 0 to office 1 at first. Office 1 counts it
+-- into view 8 and answers 11 to the one that office 0 makes; office 0 sends view 2.
 abbrev old-mail : Scenario
 old-mail =
     record {
@@ -177,7 +203,14 @@ old-mail =
       posted =
           record {
             to = 1;
-            proposal = record { sender = 0; kind = 1; members = record { bits = 17 }; start = 7; number = 9; used = three 0 0 0 };
+            proposal = record {
+              sender = 0;
+              kind = 1;
+              members = record { bits = 17 };
+              start = 7;
+              number = 9;
+              used = three 0 0 0;
+            };
           } ∷ [];
       events = join 0 17 ∷ join 1 17 ∷ hand 0 1 ∷ hand 0 1 ∷ hand 1 0 ∷ [];
     }
@@ -198,8 +231,8 @@ old-mail-summary :
 unfolding summary
 old-mail-summary = refl
 
--- others-pass: the state at office 3 has own office 0, so that its report forges a proposal of office 0, with start 7. Office 1 counts it
--- into view 8 and answers 11 to the true one.
+-- others-pass: the state at office 3 has own office 0, so that its report forges a proposal of office 0, with start
+-- 7. Office 1 counts it into view 8 and answers 11 to the true one.
 abbrev forged : Scenario
 forged =
     record {

@@ -40,10 +40,14 @@ same-way A f g h =
   where
     parts : (i j : ℕ) → between A i j ≡ true → (serves A i ≡ true) × (serves A j ≡ true) × (i ≡ j → ⊥)
     parts i j e =
-        let c = and-l (serves A i && serves A j) _ e in
-        (and-l (serves A i) _ c, and-r (serves A i) _ c, eqb-false i j (not-true _ (and-r (serves A i && serves A j) _ e)))
+        let c = and-l (serves A i && serves A j) _ e in (
+          and-l (serves A i) _ c,
+          and-r (serves A i) _ c,
+          eqb-false i j (not-true _ (and-r (serves A i && serves A j) _ e)),
+        )
 
-    go : (i j : ℕ) → i < 16 → j < 16 → (t : Bool) → between A i j ≡ t → ifb (between A i j) (length (f i j)) 0 ≡ ifb (between A i j) (length (g i j)) 0
+    go : (i j : ℕ) → i < 16 → j < 16 → (t : Bool) → between A i j ≡ t
+        → ifb (between A i j) (length (f i j)) 0 ≡ ifb (between A i j) (length (g i j)) 0
     go i j a b true e = let p = parts i j e in rw (e, h i j (a, p .0) (b, p .1) (p .2))
     go i j a b false e = rw e
 
@@ -52,7 +56,8 @@ module _ (A : ℕ) (last : ℕ → ℕ) (t : ℕ) (all-done : (i : ℕ) → OfA 
   nil-cons : {x : Item} {l : List Item} → [] ≡ x ∷ l → ⊥
   nil-cons e = let z : _≡_ {A = ℕ} 0 1 = cc in omega arith
 
-  pub quiet-acts : {n : ℕ} {g h : Offices} → Inv A last t g → Empty A (g .link) → HappensFairly A last t n g h → Empty A (h .link)
+  pub quiet-acts : {n : ℕ} {g h : Offices} → Inv A last t g → Empty A (g .link) → HappensFairly A last t n g h
+      → Empty A (h .link)
   quiet-acts v e (fair-idle _) = e
   quiet-acts {g = g} v e (fair-loss a b place _ l) = λ i j p q m.
       unfold relink in upd2-cases (λ (i j : ℕ) (k : List Item). OfA A i → OfA A j → (i ≡ j → ⊥) → k ≡ []) (g .link) a b _ i j
@@ -60,11 +65,15 @@ module _ (A : ℕ) (last : ℕ → ℕ) (t : ℕ) (all-done : (i : ℕ) → OfA 
   quiet-acts v e (fair-leave me x _ q f) = let l = all-done me q in absurd (omega arith)
   quiet-acts v e (fair-report me x p r k) = let l = all-done me (r .at-office) in let o = r .open-yet in absurd (omega arith)
   quiet-acts {g = g} v e (fair-store me i p l _ r k) = λ a b c q m.
-      unfold receive in upd2-cases (λ (a b : ℕ) (k : List Item). OfA A a → OfA A b → (a ≡ b → ⊥) → k ≡ []) (g .link) i me l a b
+      unfold receive in
+      upd2-cases (λ (a b : ℕ) (k : List Item). OfA A a → OfA A b → (a ≡ b → ⊥) → k ≡ []) (g .link) i me l a b
       (λ c q m. absurd (nil-cons (sym (e i me c q m) ∙ r .oldest c .1))) (λ o c q m. e a b c q m) c q m
   quiet-acts v e (fair-answer me i p l _ r same _) =
       absurd (nil-cons (sym (e i me inside (r .at-office) (r .others)) ∙ r .oldest inside .1))
     where
       inside : OfA A i
-      inside =
-          (r .from-office, ap (λ (y : ℕ). serves y i) (sym (same ∙ v .core .book .net-A me (r .at-office, all-done me (r .at-office)))) ∙ r .with-seat)
+      inside = (
+        r .from-office,
+        ap (λ (y : ℕ). serves y i)
+            (sym (same ∙ v .core .book .net-A me (r .at-office, all-done me (r .at-office)))) ∙ r .with-seat,
+      )

@@ -19,7 +19,8 @@ use Rattle.laws.proofs.Grid.{split, row-same, row-other}
 use Rattle.runs.proofs.Arrays.{Offices, mailTo, renet, propose, receive, conclude, relink, Arrives}
 use Rattle.runs.proofs.Links.{every-without, rising-le, rising-last}
 use Rattle.settling.specs.Statement.{OfA}
-use Rattle.settling.proofs.Invariants.{Done, NoLast, Proposing, Concluding, Place, on-its-way, is-stored, counted, Rounds, Core}
+use Rattle.settling.proofs.Invariants.{Done, NoLast, Proposing, Concluding, Place, on-its-way, is-stored}
+use Rattle.settling.proofs.Invariants.{counted, Rounds, Core}
 use Rattle.settling.proofs.LastProposal.{later}
 
 is-slow : (m : Mode) → kindOf m ≡ slow → m ≡ Slow
@@ -29,7 +30,9 @@ is-slow Slow e = refl
 
 all-mail : {P : Item → Type 0} (t : ℕ) (p : Proposal) (j : ℕ)
     → (serves (p .members .bits) j ≡ true → P (record { proposal = p; sent = t })) → Every P (mailTo t p j)
-all-mail {P} t p j f = if-cases (Every P) (serves (p .members .bits) j && not (eqb j (p .sender))) _ _ (λ b. more (f (and-l (serves (p .members .bits) j) _ b)) none) (λ b. none)
+all-mail {P} t p j f =
+    if-cases (Every P) (serves (p .members .bits) j && not (eqb j (p .sender))) _ _
+    (λ b. more (f (and-l (serves (p .members .bits) j) _ b)) none) (λ b. none)
 
 module _ (A : ℕ) (last : ℕ → ℕ) where
   pub rounds-later : {t : ℕ} {g : Offices} → NoLast A last t → Rounds A last t g → Rounds A last (t + 1) g
@@ -62,7 +65,8 @@ module _ (A : ℕ) (last : ℕ → ℕ) where
       }
 
   -- made at event t, where before it the last reports before s had come
-  module _ (s : ℕ) (g : Offices) (me : ℕ) (m : Mode) (p : Proposal) (t : ℕ) (h : Core A last s g) (k : Proposing A last g me m p t)
+  module _ (s : ℕ) (g : Offices) (me : ℕ) (m : Mode) (p : Proposal) (t : ℕ) (h : Core A last s g)
+      (k : Proposing A last g me m p t)
       (before : (i : ℕ) → OfA A i → (i ≡ me → ⊥) → last i < t + 1 → last i < s) where
     old : (i : ℕ) → (i ≡ me → ⊥) → Done A last (t + 1) i → Done A last s i
     old i n d = (d .0, before i (d .0) n (d .1))
@@ -98,20 +102,26 @@ module _ (A : ℕ) (last : ℕ → ℕ) where
     unfolding propose
     propose-rounds =
         record {
-          own-stored = split me (simp (row-same, upd-same) (λ a b. refl)) (λ i n. simp (row-other, upd-other) (λ d. h .rounds .own-stored i (old i n d)));
-          own-kind = split me (simp upd-same (λ a b. k .makes .of-kind)) (λ i n. simp upd-other (λ d. h .rounds .own-kind i (old i n d)));
+          own-stored = split me (simp (row-same, upd-same) (λ a b. refl))
+              (λ i n. simp (row-other, upd-other) (λ d. h .rounds .own-stored i (old i n d)));
+          own-kind = split me (simp upd-same (λ a b. k .makes .of-kind))
+              (λ i n. simp upd-other (λ d. h .rounds .own-kind i (old i n d)));
           own-used =
               split me
-              (simp upd-same (λ j di dj n b. rw (k .makes .with-used j (dj .0), k .is-A (let l = di .1 in omega arith), dj .1)))
+              (simp upd-same (λ j di dj n b.
+              rw (k .makes .with-used j (dj .0), k .is-A (let l = di .1 in omega arith), dj .1)))
               (λ i n. simp upd-other (λ j d. h .rounds .own-used i j (old i n d)));
-          viewed = split me (simp upd-same (λ a e. absurd (k .busy e))) (λ i n. simp upd-other (λ d. h .rounds .viewed i (old i n d)));
-          viewed-own = split me (simp upd-same (λ a e. absurd (k .busy e))) (λ i n. simp upd-other (λ d. h .rounds .viewed-own i (old i n d)));
+          viewed = split me (simp upd-same (λ a e. absurd (k .busy e)))
+              (λ i n. simp upd-other (λ d. h .rounds .viewed i (old i n d)));
+          viewed-own = split me (simp upd-same (λ a e. absurd (k .busy e)))
+              (λ i n. simp upd-other (λ d. h .rounds .viewed-own i (old i n d)));
           counts =
               split me
               (simp upd-same (λ j di dj n b e. absurd (unused j (dj .0) n e)))
               (λ i ni. split me (simp upd-same (λ di dj n b e. absurd (k .busy b)))
               (λ j nj. simp upd-other (λ di dj. h .rounds .counts i j (old i ni di) (old j nj dj))));
-          slow-used = split me (simp upd-same (λ j di dj n e s. absurd (k .busy e))) (λ i n. simp upd-other (λ j d. h .rounds .slow-used i j (old i n d)));
+          slow-used = split me (simp upd-same (λ j di dj n e s. absurd (k .busy e)))
+              (λ i n. simp upd-other (λ j d. h .rounds .slow-used i j (old i n d)));
           not-behind =
               split me
               (simp upd-same (λ j di dj n s e. absurd (unused j dj n e)))
@@ -120,16 +130,20 @@ module _ (A : ℕ) (last : ℕ → ℕ) where
               (λ j nj. simp upd-other (λ d. h .rounds .not-behind i j (old i ni d))));
           tells-above =
               split me
-              (split me (λ di dj n s. absurd (n refl)) (λ j nj. simp (upd-same, row-other) (λ di dj n s. untold j dj n)))
+              (split me (λ di dj n s. absurd (n refl))
+              (λ j nj. simp (upd-same, row-other) (λ di dj n s. untold j dj n)))
               (λ i ni. split me
-              (simp (row-same, upd-other) (λ di dj n s. every-append (h .rounds .tells-above i me (old i ni di) dj n s) (all-mail t p i (tells i (old i ni di) n s))))
+              (simp (row-same, upd-other)
+              (λ di dj n s. every-append (h .rounds .tells-above i me (old i ni di) dj n s)
+              (all-mail t p i (tells i (old i ni di) n s))))
               (λ j nj. simp (row-other, upd-other) (λ d. h .rounds .tells-above i j (old i ni d))));
         }
 
   -- sent at event t
   module _ (g : Offices) (me t : ℕ) (h : Core A last (t + 1) g) (k : Concluding A last g me) where
     -- what the view counts with an office's own number is that office's last proposal
-    is-made : (i : ℕ) → Done A last (t + 1) i → (i ≡ me → ⊥) → serves (g .net me) i ≡ true → numberIn (g .stored me i) ≡ g .num i
+    is-made : (i : ℕ) → Done A last (t + 1) i → (i ≡ me → ⊥) → serves (g .net me) i ≡ true
+        → numberIn (g .stored me i) ≡ g .num i
         → g .stored me i ≡ keeping (g .made i)
     is-made i di n b e = go (h .book .place i me di (k .at-office) n)
       where
@@ -146,11 +160,13 @@ module _ (A : ℕ) (last : ℕ → ℕ) where
         go (counted w f u) = let z : _≡_ {A = ℕ} 0 1 = cc (f, there) in absurd (omega arith)
 
     -- it is of the kind of the round, and a slow one has the own number
-    of-round : (i : ℕ) → Done A last (t + 1) i → (i ≡ me → ⊥) → serves (g .net me) i ≡ true → numberIn (g .stored me i) ≡ g .num i
+    of-round : (i : ℕ) → Done A last (t + 1) i → (i ≡ me → ⊥) → serves (g .net me) i ≡ true
+        → numberIn (g .stored me i) ≡ g .num i
         → (g .made i .kind ≡ kindOf (g .mode me)) × (g .made i .kind ≡ slow → g .num i ≡ g .num me)
     of-round i di n b e =
         let a = k .all-agree .every i (di .0 .0) b in
-        let f : g .made i .kind ≡ kindOf (g .mode me) = ap (λ v. v .proposal .kind) (sym (is-made i di n b e)) ∙ a .1 in
+        let f : g .made i .kind ≡ kindOf (g .mode me) = ap (λ v. v .proposal .kind) (sym (is-made i di n b e))
+        ∙ a .1 in
         (f, λ s. sym e ∙ rw (a .0 .0) (a .2 (is-slow (g .mode me) (sym f ∙ s))))
 
     -- the used numbers after the view
@@ -162,8 +178,11 @@ module _ (A : ℕ) (last : ℕ → ℕ) where
         × (g .stored me i .proposal .start ≡ g .made i .start)
     me-counts i di dj n e =
         let b : serves (g .net me) i ≡ true = rw (h .book .net-A me dj) (di .0 .1) in
-        let f = of-round i di n b (rw b at e) in
-        (f .0 ∙ sym (h .rounds .own-kind me dj (k .all-agree .busy)), f .1, ap (λ v. v .proposal .start) (is-made i di n b (rw b at e)))
+        let f = of-round i di n b (rw b at e) in (
+          f .0 ∙ sym (h .rounds .own-kind me dj (k .all-agree .busy)),
+          f .1,
+          ap (λ v. v .proposal .start) (is-made i di n b (rw b at e)),
+        )
 
     me-slow-used : (j : ℕ) → Done A last (t + 1) me → OfA A j → g .made me .kind ≡ slow → nowUsed j ≡ g .num me
     me-slow-used j di dj s =
@@ -171,7 +190,8 @@ module _ (A : ℕ) (last : ℕ → ℕ) where
         let a = k .all-agree .every j (dj .0) b in
         rw (b, a .0 .0) (a .2 (is-slow (g .mode me) (sym (h .rounds .own-kind me di (k .all-agree .busy)) ∙ s)))
 
-    me-not-behind : (i : ℕ) (b : Bool) → serves (g .net me) i ≡ b → Done A last (t + 1) i → (i ≡ me → ⊥) → g .made i .kind ≡ slow
+    me-not-behind : (i : ℕ) (b : Bool) → serves (g .net me) i ≡ b → Done A last (t + 1) i → (i ≡ me → ⊥)
+        → g .made i .kind ≡ slow
         → ifb b (numberIn (g .stored me i)) (g .used me i) ≡ g .num i → g .num i ≤ g .num me
     me-not-behind i true b di n s e = let f = of-round i di n b e .1 s in omega arith
     me-not-behind i false b di n s e = h .rounds .not-behind i me di (k .at-office) n s e
@@ -180,9 +200,11 @@ module _ (A : ℕ) (last : ℕ → ℕ) where
     unfolding conclude
     conclude-rounds =
         record {
-          own-stored = split me (simp (row-same, upd-same) (λ a b. absurd (b refl))) (λ i n. simp (row-other, upd-other) (h .rounds .own-stored i));
+          own-stored = split me (simp (row-same, upd-same) (λ a b. absurd (b refl)))
+              (λ i n. simp (row-other, upd-other) (h .rounds .own-stored i));
           own-kind = split me (simp upd-same (λ a b. absurd (b refl))) (λ i n. simp upd-other (h .rounds .own-kind i));
-          own-used = split me (simp upd-same (λ j di dj n b. absurd (b refl))) (λ i n. simp (row-other, upd-other) (h .rounds .own-used i));
+          own-used = split me (simp upd-same (λ j di dj n b. absurd (b refl)))
+              (λ i n. simp (row-other, upd-other) (h .rounds .own-used i));
           viewed =
               split me
               (simp upd-same (λ di e. (t, g .shown me, rw (h .book .net-A me di), (let l = di .1 in omega arith))))
@@ -207,7 +229,8 @@ module _ (A : ℕ) (last : ℕ → ℕ) where
         }
 
   -- items are taken off the link from j to i
-  module _ (t : ℕ) (g : Offices) (j i : ℕ) (l : List Item) (h : Core A last t g) (f : OfA A j → (P : Item → Type 0) → Every P (g .link j i) → Every P l) where
+  module _ (t : ℕ) (g : Offices) (j i : ℕ) (l : List Item) (h : Core A last t g) (f : OfA A j → (P : Item → Type 0)
+      → Every P (g .link j i) → Every P l) where
     fewer-rounds : Rounds A last t (relink g j i l)
     unfolding relink
     fewer-rounds =
@@ -222,14 +245,18 @@ module _ (A : ℕ) (last : ℕ → ℕ) where
           not-behind = h .rounds .not-behind;
           tells-above =
               split i
-              (split j (simp (row-same, upd-same) (λ di dj n s. f dj _ (h .rounds .tells-above i j di dj n s))) (λ b n. simp row-other (h .rounds .tells-above i b)))
-              (λ a n. split j (simp (row-same, upd-other) (h .rounds .tells-above a j)) (λ b n. simp row-other (h .rounds .tells-above a b)));
+              (split j (simp (row-same, upd-same) (λ di dj n s. f dj _ (h .rounds .tells-above i j di dj n s)))
+              (λ b n. simp row-other (h .rounds .tells-above i b)))
+              (λ a n. split j (simp (row-same, upd-other) (h .rounds .tells-above a j))
+              (λ b n. simp row-other (h .rounds .tells-above a b)));
         }
 
-  pub relink-rounds : (t : ℕ) (g : Offices) (i j place : ℕ) → Core A last t g → Rounds A last t (relink g i j (without place (g .link i j)))
+  pub relink-rounds : (t : ℕ) (g : Offices) (i j place : ℕ) → Core A last t g
+      → Rounds A last t (relink g i j (without place (g .link i j)))
   relink-rounds t g i j place h = fewer-rounds t g i j _ h (λ o P a. every-without place _ a)
 
-  pub receive-rounds : (t : ℕ) (g : Offices) (me o : ℕ) (p : Proposal) (l : List Item) → Core A last t g → Arrives (serves A) g me o p l
+  pub receive-rounds : (t : ℕ) (g : Offices) (me o : ℕ) (p : Proposal) (l : List Item) → Core A last t g
+      → Arrives (serves A) g me o p l
       → Rounds A last t (receive g me o p l)
   unfolding receive relink
   receive-rounds t g me o p l h k =
@@ -237,7 +264,8 @@ module _ (A : ℕ) (last : ℕ → ℕ) where
       record {
         own-stored =
             split me
-            (simp (row-same, upd-other (g .stored me) o (keeping p) me (λ e. k .others (sym e))) (h .rounds .own-stored me))
+            (simp (row-same, upd-other (g .stored me) o (keeping p) me (λ e. k .others (sym e)))
+            (h .rounds .own-stored me))
             (λ i n. simp row-other (h .rounds .own-stored i));
         own-kind = h .rounds .own-kind;
         own-used = h .rounds .own-used;

@@ -74,7 +74,8 @@ module _ (i : ℕ) where
   followOn w [] n c = c
   followOn w (e ∷ es) n c = followOn (next w e) es (n + 1) (follow w e n i c)
 
-  in-pass : i < 16 → (w : World) (es : List WorldEvent) (n : ℕ) (cs : List Followed) → getD (followed w es n cs) i notYet ≡ followOn w es n (getD cs i notYet)
+  in-pass : i < 16 → (w : World) (es : List WorldEvent) (n : ℕ) (cs : List Followed)
+      → getD (followed w es n cs) i notYet ≡ followOn w es n (getD cs i notYet)
   unfolding followed followOn
   in-pass lt w [] n cs = refl
   in-pass lt w (e ∷ es) n cs =
@@ -108,11 +109,13 @@ module _ (i : ℕ) where
 
       go : Ended (next w e) es (n + 1) (follow w e n i c) d → Ended w (e ∷ es) n c d
       go (changed k lt p m h) = changed (suc k) (omega arith) (omega arith) m
-          (later (λ j. suc k < j → Moves w (e ∷ es) (c .net) j → ⊥) (λ l. absurd (omega arith)) (λ j l q. h j l (omega arith)))
+          (later (λ j. suc k < j → Moves w (e ∷ es) (c .net) j → ⊥) (λ l. absurd (omega arith))
+          (λ j l q. h j l (omega arith)))
       go (unchanged p h) = split (eqb x (c .net)) refl
         where
           split : (t : Bool) → eqb x (c .net) ≡ t → Ended w (e ∷ es) n c d
-          split true t = unchanged (p ∙ rw t) (later (λ j. Moves w (e ∷ es) (c .net) j → ⊥) (λ m. m (eqb-true x (c .net) t)) h)
+          split true t = unchanged (p ∙ rw t)
+              (later (λ j. Moves w (e ∷ es) (c .net) j → ⊥) (λ m. m (eqb-true x (c .net) t)) h)
           split false t = changed 0 (omega arith) (p ∙ rw t (omega arith)) (eqb-false x (c .net) t)
               (later (λ j. 0 < j → Moves w (e ∷ es) (c .net) j → ⊥) (λ l. absurd (omega arith)) (λ j l q. h j l))
 
@@ -148,7 +151,8 @@ module _ (x i : ℕ) (s : serves x i ≡ true) where
     where
       go : (t : Bool) → eqb a i ≡ t → t ≡ false
       go false e = refl
-      go true e = let z = eqb-true a i e in let b = not-true (serves x a) h in let c : serves x i ≡ false = rw (← z) b in absurd (false≢true (cc))
+      go true e = let z = eqb-true a i e in let b = not-true (serves x a) h in let c : serves x i ≡ false =
+          rw (← z) b in absurd (false≢true (cc))
 
   fresh-at : (bs : List NotFresh) → allFresh x bs ≡ true → stateIn bs i ≡ fresh i
   fresh-at [] h = refl
@@ -175,15 +179,18 @@ mail-from o j (y ∷ ys) = go (eqb (y .proposal .sender) o) (eqb (y .to) j) refl
     go true false e l = l
     go false t e l = l
 
-none-failing : (t : Hypothesis → Bool) (xs : List Hypothesis) → failing t xs ≡ [] → (n : ℕ) → n < length xs → t (getD xs n some-seat) ≡ true
+none-failing : (t : Hypothesis → Bool) (xs : List Hypothesis) → failing t xs ≡ [] → (n : ℕ) → n < length xs
+    → t (getD xs n some-seat) ≡ true
 none-failing t [] e n lt = absurd (omega arith)
 none-failing t (x ∷ xs) e n lt = go (t x) refl n lt (none-failing t xs)
   where
-    go : (b : Bool) → t x ≡ b → (n : ℕ) → n < length (x ∷ xs) → (failing t xs ≡ [] → (n : ℕ) → n < length xs → t (getD xs n some-seat) ≡ true)
+    go : (b : Bool) → t x ≡ b → (n : ℕ) → n < length (x ∷ xs)
+        → (failing t xs ≡ [] → (n : ℕ) → n < length xs → t (getD xs n some-seat) ≡ true)
         → t (getD (x ∷ xs) n some-seat) ≡ true
     go true q zero lt ih = q
     go true q (suc n) lt ih = ih (rw q at e) n (omega arith)
-    go false q n lt ih = let z : x ∷ failing t xs ≡ [] = rw q at e in let y : _≡_ {A = ℕ} 0 1 = cc in absurd (omega arith)
+    go false q n lt ih = let z : x ∷ failing t xs ≡ [] = rw q at e in let y : _≡_ {A = ℕ} 0 1 = cc in
+        absurd (omega arith)
 
 -- a scenario that fails none meets-all the hypotheses of the rule
 module _ (p : Scenario) (e : fails p ≡ []) where
@@ -206,16 +213,19 @@ module _ (p : Scenario) (e : fails p ≡ []) where
   abbrev Of : ℕ → Type 0
   Of = OfA A
 
-  passing : (o : ℕ) → o < 16 → (Of o → ⊥) → (stateIn (p .begun) o .own ≡ o) × (wellFormed (stateIn (p .begun) o) ≡ true)
+  passing : (o : ℕ) → o < 16 → (Of o → ⊥) → (stateIn (p .begun) o .own ≡ o)
+      × (wellFormed (stateIn (p .begun) o) ≡ true)
   unfolding holds
-  passing o lt h = go (serves A o) refl (allb-out 16 (λ o. serves A o || passes o (stateIn (p .begun) o)) (test 3 refl) o lt)
+  passing o lt h = go (serves A o) refl
+      (allb-out 16 (λ o. serves A o || passes o (stateIn (p .begun) o)) (test 3 refl) o lt)
     where
       go : (t : Bool) → serves A o ≡ t → t || passes o (stateIn (p .begun) o) ≡ true
           → (stateIn (p .begun) o .own ≡ o) × (wellFormed (stateIn (p .begun) o) ≡ true)
       go true q u = absurd (h (lt, q))
       go false q u = let b = and-iff (eqb (stateIn (p .begun) o .own) o) _ .0 u in (eqb-true _ o (b .0), b .1)
 
-  kept : (n i j place : ℕ) → Of i → Of j → Nth es n (loss i j place) → olderAt (last i) place (at w es n .link i j) ≡ true
+  kept : (n i j place : ℕ) → Of i → Of j → Nth es n (loss i j place)
+      → olderAt (last i) place (at w es n .link i j) ≡ true
   unfolding holds
   kept n i j place a b x =
       let t = everywhere-out (losesOld A last) w es (test 10 refl) n (loss i j place) x in
@@ -234,13 +244,16 @@ module _ (p : Scenario) (e : fails p ≡ []) where
         among = λ n e x. is-among (at w es n) e (everywhere-out amongb w es (test 5 refl) n e x);
         has-last = λ i o. last-found p i (o .0) (of-each A (changeAt p .has) (test 6 refl) i (o .0) (o .1));
         net-is-A = λ i o. eqb-true _ A (of-each A (λ i. eqb (netBy w es i 0) A) (test 7 refl) i (o .0) (o .1));
-        full-room = λ n i r e o x. never A 3 (at w es n) e (everywhere-out (answersNot A 3) w es (test 8 refl) n e x) i r (o .1);
-        no-ceiling = λ n i r e o x. never A 13 (at w es n) e (everywhere-out (answersNot A 13) w es (test 9 refl) n e x) i r (o .1);
+        full-room = λ n i r e o x. never A 3 (at w es n) e (everywhere-out (answersNot A 3) w es (test 8 refl) n e x)
+            i r (o .1);
+        no-ceiling = λ n i r e o x. never A 13 (at w es n) e
+            (everywhere-out (answersNot A 13) w es (test 9 refl) n e x) i r (o .1);
         none-lost = λ n i j place y a b x. older (last i) place (at w es n .link i j) (kept n i j place a b x) y;
       }
 
 pub reported : (p : Scenario) (i : ℕ) → reportedLast p i ≡ true
-    → AllReported (p .set) (stateIn (p .begun)) (linkIn (p .posted)) (p .events) (changeAt p .place) (changeAt p .place i + 1)
+    → AllReported (p .set) (stateIn (p .begun)) (linkIn (p .posted)) (p .events) (changeAt p .place)
+    (changeAt p .place i + 1)
 unfolding reportedLast
 reported p i h =
     let a = and-iff (ltb i 16) _ .0 h in

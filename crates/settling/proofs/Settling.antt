@@ -126,31 +126,42 @@ module _ (A : ℕ) (states : ℕ → State) (links : ℕ → ℕ → List Item) 
           go (yes b) = absurd (d (kept-after n i e q h b))
           go (no b) = omega arith
 
-      the-report : (i : ℕ) → OfA A i → last i ≡ n → (r : Report) × (room : ℕ) × (e ≡ report i r room) × Renewed (world n) e i
+      the-report : (i : ℕ) → OfA A i → last i ≡ n → (r : Report) × (room : ℕ) × (e ≡ report i r room)
+          × Renewed (world n) e i
       the-report i q k =
           let x = subst (λ (m : ℕ). Changes A states links es m i) k (known .has-last i q .0) in
-          let r = x .0 in
-          (r .0, r .1, nth-same es n e (report i (r .0) (r .1)) h (r .2), λ z. x .1 (sym (net-left n i e q h) ∙ z ∙ net-is n i q))
+          let r = x .0 in (
+            r .0,
+            r .1,
+            nth-same es n e (report i (r .0) (r .1)) h (r .2),
+            λ z. x .1 (sym (net-left n i e q h) ∙ z ∙ net-is n i q),
+          )
 
   -- event n, where arrays g show the world before it
-  step-acts : (n : ℕ) (e : WorldEvent) → Nth es n e → (g h : Offices) → SeenAll (serves A) (world n) g → Happens (serves A) (world n) e g h
+  step-acts : (n : ℕ) (e : WorldEvent) → Nth es n e → (g h : Offices) → SeenAll (serves A) (world n) g
+      → Happens (serves A) (world n) e g h
       → SeenAll (serves A) (world (n + 1)) h → HappensFairly A last n (deliveryOne A (world n) e) g h
   step-acts n e k g h s a v =
       let lt = k .0 in
       let c : world n .clock ≡ n = clock-is n (omega arith) in
       subst (λ (t : ℕ). HappensFairly A last t (deliveryOne A (world n) e) g h) c
-      (fair-acts A last (world n) g s (known .among n e k) (fair n e k) a (subst (λ (w : World). SeenAll (serves A) w h) (at-next start es n e k) v))
+      (fair-acts A last (world n) g s (known .among n e k) (fair n e k) a
+      (subst (λ (w : World). SeenAll (serves A) w h) (at-next start es n e k) v))
 
   -- arrays that show the world before event n, with the invariants and with I besides
   abbrev Known : (ℕ → Offices → Type 0) → ℕ → Type 0
   Known I = Shown (serves A) states links es begins (known .among) (λ n g. Inv A last n g × I n g)
 
   module _ (I : ℕ → Offices → Type 0)
-      (keeps : (n : ℕ) (e : WorldEvent) → Nth es n e → (g h : Offices) → Inv A last n g → I n g → HappensFairly A last n (deliveryOne A (world n) e) g h
+      (keeps : (n : ℕ) (e : WorldEvent) → Nth es n e → (g h : Offices) → Inv A last n g → I n g
+      → HappensFairly A last n (deliveryOne A (world n) e) g h
       → I (n + 1) h) where
-    one : (n : ℕ) (e : WorldEvent) → Nth es n e → (g h : Offices) → SeenAll (serves A) (world n) g → Numbers (serves A) g → Inv A last n g × I n g
-        → Happens (serves A) (world n) e g h → SeenAll (serves A) (world (n + 1)) h → Inv A last (n + 1) h × I (n + 1) h
-    one n e k g h s c i a v = let f = step-acts n e k g h s a v in (inv-acts A last (i .0) f, keeps n e k g h (i .0) (i .1) f)
+    one : (n : ℕ) (e : WorldEvent) → Nth es n e → (g h : Offices) → SeenAll (serves A) (world n) g
+        → Numbers (serves A) g → Inv A last n g × I n g
+        → Happens (serves A) (world n) e g h → SeenAll (serves A) (world (n + 1)) h → Inv A last (n + 1) h
+        × I (n + 1) h
+    one n e k g h s c i a v = let f = step-acts n e k g h s a v in
+        (inv-acts A last (i .0) f, keeps n e k g h (i .0) (i .1) f)
 
     known-along : (n m : ℕ) → n ≤ m → m ≤ length es → Known I n → Known I m
     known-along = shown-along (serves A) states links es begins (known .among) (λ n g. Inv A last n g × I n g) one
@@ -190,7 +201,8 @@ module _ (A : ℕ) (states : ℕ → State) (links : ℕ → ℕ → List Item) 
       → HappensFairly A last n (deliveryOne A (w-at n) e) g h → Counted (n + 1) h
   unfolding Counted from deliveries
   count-one n e k g h v c a =
-      let b : deliveries A (w-at n) (drop n es) ≡ deliveryOne A (w-at n) e + deliveries A (w-at (n + 1)) (drop (n + 1) es)
+      let b : deliveries A (w-at n) (drop n es) ≡ deliveryOne A (w-at n) e + deliveries A (w-at (n + 1))
+      (drop (n + 1) es)
       = rw (drop-next es n e k, at-next (atFirst states links) es n e k) in
       let l = c .0 in
       let q = c .3 in
@@ -203,7 +215,8 @@ module _ (A : ℕ) (states : ℕ → State) (links : ℕ → ℕ → List Item) 
       let c : w-at T .clock ≡ T = clock-is A states links es last known T T-in in
       let early : (i j : ℕ) → OfA A i → OfA A j → (i ≡ j → ⊥) → Every (λ x. x .sent < T) (s .0 .link i j)
       = λ i j a b n. subst (λ (t : ℕ). Every (λ x. x .sent < t) (s .0 .link i j)) c (rw (s .1 .links i j (a, b .0, n)) at (s .1 .stamped i j (a, b .0, n))) in
-      let same : P ≡ onWay A (s .0 .link) = same-way A (w-at T .link) (s .0 .link) (λ i j a b n. s .1 .links i j (a, b .0, n)) in
+      let same : P ≡ onWay A (s .0 .link) =
+      same-way A (w-at T .link) (s .0 .link) (λ i j a b n. s .1 .links i j (a, b .0, n)) in
       let first : Goes A last T P (after .after) 0 (s .0)
       = subst (λ (x : ℕ). Goes A last T x (after .after) 0 (s .0)) (sym same) (at-first A last T (after .after) (s .0) early) in
       let r = known-along A states links es last known Counted count-one T (length es) T-in (omega arith)
@@ -230,7 +243,8 @@ module _ (A : ℕ) (states : ℕ → State) (links : ℕ → ℕ → List Item) 
       (λ n e k g h v s a. let l = s .0 in (omega arith, quiet-acts A last n (all-done n (s .0)) v (s .1) a))
 
   -- what a quiet office of A answers: it writes nothing
-  silent : (n : ℕ) → T ≤ n → Quiet n → (e : WorldEvent) → Nth es n e → (i : ℕ) (r : Result) → OfA A i → Gives (w-at n) e i r → r .written ≡ []
+  silent : (n : ℕ) → T ≤ n → Quiet n → (e : WorldEvent) → Nth es n e → (i : ℕ) (r : Result) → OfA A i
+      → Gives (w-at n) e i r → r .written ≡ []
   silent n h q e k i r p (to-report o rep room) =
       unchanged-silent (w-at n) o room rep (known .among n (report o rep room) k)
       (kept-after A states links es last known n o (report o rep room) p k (all-done n h o p))
@@ -244,14 +258,21 @@ module _ (A : ℕ) (states : ℕ → State) (links : ℕ → ℕ → List Item) 
           let z : [] ≡ x ∷ l = sym (q .3 .1 .1 i o a p (m .2)) ∙ sym (q .1 .links i o (a, p .0, m .2)) ∙ front in
           let y : _≡_ {A = ℕ} 0 1 = cc in omega arith
 
-      not-of-A : (r : Proposal) → Passes (w-at n .state o) r → r .sender ≡ x .proposal .sender → r .members .bits ≡ w-at n .state o .net .bits → ⊥
+      not-of-A : (r : Proposal) → Passes (w-at n .state o) r → r .sender ≡ x .proposal .sender
+          → r .members .bits ≡ w-at n .state o .net .bits → ⊥
       not-of-A r pass s e =
           let sender : r .sender ≡ i = s ∙ every-head (rw front at (q .1 .named i o (m .0) (m .1))) in
           let net : w-at n .state o .net .bits ≡ A
-          = q .1 .sim o p (below-sixteen (serves A) (p .0)) .net ∙ q .3 .0 .core .book .net-A o (p, all-done n h o p) in
-          out (m .0, ap (λ (y : ℕ). serves y i) (sym (e ∙ net)) ∙ ap (serves (r .members .bits)) (sym sender) ∙ pass .seat)
+          = q .1 .sim o p (below-sixteen (serves A) (p .0)) .net
+          ∙ q .3 .0 .core .book .net-A o (p, all-done n h o p) in
+          out (
+            m .0,
+            ap (λ (y : ℕ). serves y i) (sym (e ∙ net)) ∙ ap (serves (r .members .bits)) (sym sender)
+                ∙ pass .seat,
+          )
 
-  settled : (n : ℕ) → T ≤ n → n ≤ length es → onWay A (w-at n .link) ≡ 0 → (v : View) × Settled A states links es last n v
+  settled : (n : ℕ) → T ≤ n → n ≤ length es → onWay A (w-at n .link) ≡ 0
+      → (v : View) × Settled A states links es last n v
   unfolding viewWith
   settled n h k z =
       let q = quiet-at n h k z in
@@ -259,8 +280,10 @@ module _ (A : ℕ) (states : ℕ → State) (links : ℕ → ℕ → List Item) 
         viewWith A (λ o. q .0 .made o .start),
         record {
           of-A = refl;
-          latest = λ i a. let y = quiet-view A last n (q .0) (q .3 .0) d (q .3 .1 .1) i a in (y .0, y .1, q .1 .shown i a ∙ y .2, y .3);
-          no-more = λ m i r e le a x g. silent m (omega arith) (quiet-on n m le (let l = x .0 in omega arith) q) e x i r a g;
+          latest = λ i a. let y = quiet-view A last n (q .0) (q .3 .0) d (q .3 .1 .1) i a in
+              (y .0, y .1, q .1 .shown i a ∙ y .2, y .3);
+          no-more = λ m i r e le a x g. silent m (omega arith) (quiet-on n m le (let l = x .0 in omega arith) q) e x i
+              r a g;
         },
       )
 

@@ -1,6 +1,6 @@
--- Scenarios, for examples of the settling rule: a set, sixteen offices, a list of events. What the rule assumes of a scenario is a list
--- of tests that compute (proofs/Scenarios.antt turns them into the rule's own hypotheses); what it shows is one record of numbers, to be
--- compared with numbers written by hand.
+-- Scenarios, for examples of the settling rule: a set, sixteen offices, a list of events. What the rule assumes of a
+-- scenario is a list of tests that compute (proofs/Scenarios.antt turns them into the rule's own hypotheses); what it
+-- shows is one record of numbers, to be compared with numbers written by hand.
 use mathlib.Core.Bool.{Bool, true, false, _&&_, _||_, not}
 use mathlib.Core.List.{List, [], _∷_, _++_, map}
 use Prim.Native.Nat.{ℕ, zero, suc, _+_, _-_, _*_, _^_}
@@ -17,7 +17,8 @@ use Rattle.rules.specs.State.{None, State, zeros, nothing}
 use Rattle.rules.specs.Rules.{fresh}
 use Rattle.rules.specs.Refusals.{wellFormed}
 use Rattle.rules.specs.Days.{given}
-use Rattle.runs.specs.World.{netOne, netBy, Item, SentView, viewsIn, World, atFirst, WorldEvent, report, delivery, loss, answered, withLink, idle, reportAnswer, proposalAnswer, next, run, at}
+use Rattle.runs.specs.World.{netOne, netBy, Item, SentView, viewsIn, World, atFirst, WorldEvent, report, delivery}
+use Rattle.runs.specs.World.{loss, answered, withLink, idle, reportAnswer, proposalAnswer, next, run, at}
 use Rattle.settling.specs.Statement.{onWay, deliveries}
 
 -- an office that does not start fresh, and a proposal that is on the link from its sender at first
@@ -42,7 +43,8 @@ stateIn (b ∷ bs) i = ifb (eqb (b .office) i) (b .state) (stateIn bs i)
 abbrev pub linkIn : List Posted → ℕ → ℕ → List Item
 linkIn [] i j = []
 linkIn (x ∷ xs) i j =
-    ifb (eqb (x .proposal .sender) i && eqb (x .to) j) (record { proposal = x .proposal; sent = 0 } ∷ linkIn xs i j) (linkIn xs i j)
+    ifb (eqb (x .proposal .sender) i && eqb (x .to) j) (record { proposal = x .proposal; sent = 0 } ∷ linkIn xs i j)
+    (linkIn xs i j)
 
 abbrev pub opening : Scenario → World
 opening p = atFirst (stateIn (p .begun)) (linkIn (p .posted))
@@ -92,7 +94,8 @@ abbrev pub lastTo : List WorldEvent → ℕ → ℕ
 lastTo [] i = 0
 lastTo (e ∷ es) i = ifb (noneTo i es) 0 (suc (lastTo es i))
 
--- Of an office, as the events go by: its net view, and the point just after the last report that changed it, 0 where none has.
+-- Of an office, as the events go by: its net view, and the point just after the last report that changed it, 0 where
+-- none has.
 pub record Followed : Type 0 where
   pub net : ℕ
   pub point : ℕ
@@ -146,7 +149,8 @@ ofEach x t = allb 16 (λ i. not (serves x i) || t i)
 
 -- what the rule assumes, by its names
 pub data Hypothesis : Type 0 where
-  some-seat starts-fresh no-mail others-pass others-mail among has-last net-is-A full-room no-ceiling none-lost : Hypothesis
+  some-seat starts-fresh no-mail others-pass others-mail among has-last net-is-A full-room no-ceiling
+      none-lost : Hypothesis
 
 unfoldable pub holds : Scenario → Lasts → Hypothesis → Bool
 holds p l some-seat = ltb 0 (p .set) && ltb (p .set) (2 ^ 64)
@@ -164,13 +168,15 @@ holds p l none-lost = everywhere (losesOld (p .set) (l .place)) (opening p) (p .
 
 abbrev pub hypotheses : List Hypothesis
 hypotheses =
-    some-seat ∷ starts-fresh ∷ no-mail ∷ others-pass ∷ others-mail ∷ among ∷ has-last ∷ net-is-A ∷ full-room ∷ no-ceiling ∷ none-lost ∷ []
+    some-seat ∷ starts-fresh ∷ no-mail ∷ others-pass ∷ others-mail ∷ among ∷ has-last ∷ net-is-A ∷ full-room
+    ∷ no-ceiling ∷ none-lost ∷ []
 
 abbrev pub failing : (Hypothesis → Bool) → List Hypothesis → List Hypothesis
 failing t [] = []
 failing t (x ∷ xs) = ifb (t x) [] (x ∷ []) ++ failing t xs
 
--- the hypotheses that a scenario fails; the same where the last report in the list counts, also one that changes nothing
+-- the hypotheses that a scenario fails; the same where the last report in the list counts, also one that changes
+-- nothing
 unfoldable pub fails : Scenario → List Hypothesis
 fails p = failing (holds p (changeAt p)) hypotheses
 
@@ -179,7 +185,8 @@ failsByReport p = failing (holds p (reportAt p)) hypotheses
 
 -- office i of the set has the latest of the last reports: the point of the rule is just after that
 unfoldable pub reportedLast : Scenario → ℕ → Bool
-reportedLast p i = ltb i 16 && (serves (p .set) i && ofEach (p .set) (λ j. ltb (changeAt p .place j) (changeAt p .place i + 1)))
+reportedLast p i =
+    ltb i 16 && (serves (p .set) i && ofEach (p .set) (λ j. ltb (changeAt p .place j) (changeAt p .place i + 1)))
 
 -- the latest view that an office sent, with the event that sent it: the start numbers are of offices 0, 1, 2 and so on
 pub data Latest : Type 0 where

@@ -48,7 +48,8 @@ module _ (A : ℕ) (states : ℕ → State) (links : ℕ → ℕ → List Item) 
   abbrev pub netAt : ℕ → ℕ → ℕ
   netAt i n = netBy first (take n es) i 0
 
-  -- event n is a report to office i; one that changes its net view, which is judged before the event and after it; the last of those
+  -- event n is a report to office i; one that changes its net view, which is judged before the event and after it;
+  -- the last of those
   abbrev pub ReportTo : ℕ → ℕ → Type 0
   ReportTo n i = (r : Report) × (room : ℕ) × Nth es n (report i r room)
 
@@ -65,8 +66,8 @@ module _ (A : ℕ) (states : ℕ → State) (links : ℕ → ℕ → List Item) 
     -- the offices of A start fresh, with empty links to all others
     pub starts-fresh : (i : ℕ) → OfA A i → states i ≡ fresh i
     pub no-mail : (i j : ℕ) → OfA A i → links i j ≡ []
-    -- any other office starts in any state with its own office number that passes check 2, its links holding any proposals that
-    -- name it as sender
+    -- any other office starts in any state with its own office number that passes check 2, its links holding any
+    -- proposals that name it as sender
     pub others-pass : (o : ℕ) → o < 16 → (OfA A o → ⊥) → (states o .own ≡ o) × (wellFormed (states o) ≡ true)
     pub others-mail : (o j : ℕ) → o < 16 → (OfA A o → ⊥) → Every (λ x. x .proposal .sender ≡ o) (links o j)
     -- the events are of the sixteen offices and their links
@@ -75,8 +76,10 @@ module _ (A : ℕ) (states : ℕ → State) (links : ℕ → ℕ → List Item) 
     pub has-last : (i : ℕ) → OfA A i → LastChange i (last i)
     pub net-is-A : (i : ℕ) → OfA A i → netBy first es i 0 ≡ A
     -- full output room and no ceiling: none of its events is answered 3 or 13
-    pub full-room : (n i : ℕ) (r : Result) (e : WorldEvent) → OfA A i → Nth es n e → Gives (at first es n) e i r → r .refusal ≡ 3 → ⊥
-    pub no-ceiling : (n i : ℕ) (r : Result) (e : WorldEvent) → OfA A i → Nth es n e → Gives (at first es n) e i r → r .refusal ≡ 13 → ⊥
+    pub full-room : (n i : ℕ) (r : Result) (e : WorldEvent) → OfA A i → Nth es n e → Gives (at first es n) e i r
+        → r .refusal ≡ 3 → ⊥
+    pub no-ceiling : (n i : ℕ) (r : Result) (e : WorldEvent) → OfA A i → Nth es n e → Gives (at first es n) e i r
+        → r .refusal ≡ 13 → ⊥
     -- none of the proposals that it sends the others of A from its last report on is lost
     pub none-lost : (n i j place : ℕ) (x : Item) → OfA A i → OfA A j → Nth es n (loss i j place)
         → place < length (at first es n .link i j) → getD (at first es n .link i j) place x ≡ x → x .sent < last i
@@ -90,7 +93,8 @@ module _ (A : ℕ) (states : ℕ → State) (links : ℕ → ℕ → List Item) 
   pub record Settled (last : ℕ → ℕ) (n : ℕ) (v : View) : Type 0 where
     pub of-A : v .members .bits ≡ A
     -- each has sent a view since its last report, and its latest is v
-    pub latest : (i : ℕ) → OfA A i → (t : ℕ) × (vs : List SentView) × (viewsIn (at first es n .log i) ≡ record { view = v; sent = t } ∷ vs) × (last i ≤ t)
+    pub latest : (i : ℕ) → OfA A i → (t : ℕ) × (vs : List SentView)
+        × (viewsIn (at first es n .log i) ≡ record { view = v; sent = t } ∷ vs) × (last i ≤ t)
     -- they send no more
     pub no-more : (m i : ℕ) (r : Result) (e : WorldEvent) → n ≤ m → OfA A i → Nth es m e → Gives (at first es m) e i r → r .written ≡ []
 

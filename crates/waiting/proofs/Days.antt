@@ -7,5 +7,6 @@ use Rattle.waiting.specs.Waiting.{lacks, lowestLacking, forNobody, waiti
 use Rattle.waiting.specs.Days.{answersComputed, answersStated}
 
 pub days-answered : answersComputed ≡ answersStated
-unfolding answersComputed answersStated dayA dayB dayC dayG dayI given waitingFor lacks lowestLacking forNobody lowestBelow
+unfolding answersComputed answersStated dayA dayB dayC dayG dayI given waitingFor lacks lowestLacking forNobody
+    lowestBelow
 days-answered = refl then refl then refl then refl then refl then refl then refl then refl then refl then refl

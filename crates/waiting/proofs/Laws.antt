@@ -1,4 +1,5 @@
--- Laws of the question whom an office waits for: what each answer says of the state, and that the two ways to look agree.
+-- Laws of the question whom an office waits for: what each answer says of the state, and that the two ways to look
+-- agree.
 use mathlib.Core.Path.{_≡_, refl, _∙_}
 use mathlib.Core.Bool.{Bool, true, false, _&&_, _||_, not}
 use mathlib.Core.Logic.{_↔_}
@@ -16,7 +17,8 @@ use Rattle.rules.specs.Refusals.{wellFormed}
 use Rattle.rule_laws.proofs.Modes.{busy-is}
 use Rattle.waiting.specs.declared.Waiting.{Waiting}
 use Rattle.waiting.specs.declared.Waiting.the-variants as answers
-use Rattle.waiting.specs.Waiting.{lacks, lowestLacking, lowestLackingOfAll, forNobody, found, waitingFor, waitingForOfAll}
+use Rattle.waiting.specs.Waiting.{lacks, lowestLacking, lowestLackingOfAll, forNobody, found, waitingFor}
+use Rattle.waiting.specs.Waiting.{waitingForOfAll}
 
 -- in mode none the agreement test is not met
 pub agreed-none : (s : State) → isNone (s .mode) ≡ true → agreed s ≡ false
@@ -94,22 +96,32 @@ module _ (s : State) where
   lowest-lacks : (o : ℕ) → o ≡ lowestBelow 16 (lacks s) → o < 16 → Lowest s o
   lowest-lacks o e l =
       let h = lacks-out o (rw e (lowest-passes 16 (lacks s) (omega arith))) in
-      record { office = l; of-the-net-view = h .0; lacking = h .1; lower = λ k b. lacks-not k (lowest-first 16 (lacks s) k (omega arith)) }
+      record {
+        office = l;
+        of-the-net-view = h .0;
+        lacking = h .1;
+        lower = λ k b. lacks-not k (lowest-first 16 (lacks s) k (omega arith));
+      }
 
   pub means : Means s (waitingFor s)
   unfolding waitingFor forNobody lowestLacking
-  means = if-cases (Means s) (wellFormed s) _ _ (λ w. if-cases (Means s) (forNobody s) _ _ (nobody w) (busy w)) malformed
+  means = if-cases (Means s) (wellFormed s) _ _ (λ w. if-cases (Means s) (forNobody s) _ _ (nobody w) (busy w))
+      malformed
     where
       busy : wellFormed s ≡ true → forNobody s ≡ false → Means s (found (lowestBelow 16 (lacks s)))
       busy w n =
           let k = lowestBelow 16 (lacks s) in
           let b : isNone (s .mode) ≡ false = or-l _ _ n in
           if-cases (Means s) (ltb k 16) _ _
-          (λ e. named k w n (agreed-lowest s b ∙ ne-eqb k 16 (λ (q : k ≡ 16). let l = ltb-true k 16 e in omega arith)) (lowest-lacks k refl (ltb-true k 16 e)))
-          (λ e. met w n (agreed-lowest s b ∙ eq-eqb k 16 (let l = ltb-false k 16 e in let h = lowest-le 16 (lacks s) in omega arith)))
+          (λ e. named k w n (agreed-lowest s b ∙ ne-eqb k 16 (λ (q : k ≡ 16). let l = ltb-true k 16 e in omega arith))
+          (lowest-lacks k refl (ltb-true k 16 e)))
+          (λ e. met w n (agreed-lowest s b
+          ∙ eq-eqb k 16 (let l = ltb-false k 16 e in let h = lowest-le 16 (lacks s) in omega arith)))
 
-  -- met exactly where the agreement test is met: in a state that passes check 2, with a seat in the net view, in mode fast or slow
-  pub met-agreed : wellFormed s ≡ true → isNone (s .mode) ≡ false → seated s ≡ true → (waitingFor s ≡ answers.Met) ↔ (agreed s ≡ true)
+  -- met exactly where the agreement test is met: in a state that passes check 2, with a seat in the net view, in mode
+  -- fast or slow
+  pub met-agreed : wellFormed s ≡ true → isNone (s .mode) ≡ false → seated s ≡ true
+      → (waitingFor s ≡ answers.Met) ↔ (agreed s ≡ true)
   unfolding forNobody
   met-agreed w n v = (λ e. go means e, λ e. back means e)
     where
@@ -138,11 +150,13 @@ module _ (s : State) where
       go (met x y a) e = let z : _≡_ {A = ℕ} 0 1 = cc in absurd (omega arith)
       go (named k x y a l) e = let q : k ≡ o = cc in rw (← q) l
 
-  pub lowest-named : wellFormed s ≡ true → isNone (s .mode) ≡ false → seated s ≡ true → (o : ℕ) → Lowest s o → waitingFor s ≡ answers.For o
+  pub lowest-named : wellFormed s ≡ true → isNone (s .mode) ≡ false → seated s ≡ true → (o : ℕ) → Lowest s o
+      → waitingFor s ≡ answers.For o
   unfolding waitingFor forNobody lowestLacking lacks
   lowest-named w n v o l =
       let f : (k : ℕ) → k < o → lacks s k ≡ false = λ k b. lower-has (serves (s .net .bits) k) _ (l .lower k b) in
-      let e : lowestBelow 16 (lacks s) ≡ o = lowest-is 16 (lacks s) o (l .office) (rw (l .of-the-net-view, l .lacking)) f in
+      let e : lowestBelow 16 (lacks s) ≡ o =
+      lowest-is 16 (lacks s) o (l .office) (rw (l .of-the-net-view, l .lacking)) f in
       rw (w, n, v, e, lt-ltb o 16 (l .office))
     where
       lower-has : (a b : Bool) → (a ≡ true → b ≡ true) → a && not b ≡ false

@@ -1,4 +1,5 @@
--- Whom an office waits for: the lowest-numbered office of the net view without the proposal that the agreement test asks for.
+-- Whom an office waits for: the lowest-numbered office of the net view without the proposal that the agreement test
+-- asks for.
 use mathlib.Core.Bool.{Bool, _&&_, _||_, not}
 use Prim.Native.Nat.{ℕ}
 use lib.Dec.{ltb}

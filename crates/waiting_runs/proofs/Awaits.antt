@@ -1,5 +1,5 @@
--- What every accepted event keeps: in mode fast or slow, with a seat in the net view, the agreement test is not met, and the own office has
--- the proposal that it asks for.
+-- What every accepted event keeps: in mode fast or slow, with a seat in the net view, the agreement test is not met,
+-- and the own office has the proposal that it asks for.
 use mathlib.Core.Path.{_≡_, refl, sym, ap, subst, _∙_}
 use mathlib.Core.Bool.{Bool, true, false}
 use Prim.Native.Nat.{ℕ, _<_}
@@ -9,7 +9,8 @@ use Rattle.seats.specs.Offices.{serves}
 use Rattle.records.specs.declared.Report.{Report}
 use Rattle.records.specs.declared.Proposal.{Proposal}
 use Rattle.rules.specs.State.{Mode, None, Fast, Slow, Slot, State, kindOf, keeping, storedAt}
-use Rattle.rules.specs.Rules.{andThen, netAfter, withNet, seated, opened, opens, ownProposal, proposed, proposesFast, received}
+use Rattle.rules.specs.Rules.{andThen, netAfter, withNet, seated, opened, opens, ownProposal, proposed, proposesFast}
+use Rattle.rules.specs.Rules.{received}
 use Rattle.rules.specs.Rules.{beginsIn, proposesSlow, agreed, reportRule, proposalRule}
 use Rattle.rules.specs.Refusals.{Event, aReport, aProposal, refusalOf, ruleOf}
 use Rattle.rule_laws.proofs.Parts.{proposed-reads, received-reads, concluded-reads, made-is}
@@ -27,7 +28,8 @@ pub record Awaits (s : State) : Type 0 where
   pub own-has : (s .mode ≡ None → ⊥) → seated s ≡ true → Agreeing s (s .own)
 
 -- what is stored for an office agrees: by its parts, and as before where nothing that counts changed
-slot-agrees : (t : State) (o : ℕ) (p : Proposal) → storedAt t o ≡ keeping p → p .kind ≡ kindOf (t .mode) → p .members .bits ≡ t .net .bits
+slot-agrees : (t : State) (o : ℕ) (p : Proposal) → storedAt t o ≡ keeping p → p .kind ≡ kindOf (t .mode)
+    → p .members .bits ≡ t .net .bits
     → p .number ≡ t .number → Agreeing t o
 slot-agrees t o p q k m n = record {
   is-there = ap (λ (v : Slot). v .present) q;
@@ -36,7 +38,8 @@ slot-agrees t o p q k m n = record {
   own-number = λ e. ap (λ (v : Slot). v .proposal .number) q ∙ n;
 }
 
-agreeing-kept : (s t : State) (o : ℕ) → storedAt t o ≡ storedAt s o → t .mode ≡ s .mode → t .net .bits ≡ s .net .bits → t .number ≡ s .number
+agreeing-kept : (s t : State) (o : ℕ) → storedAt t o ≡ storedAt s o → t .mode ≡ s .mode → t .net .bits ≡ s .net .bits
+    → t .number ≡ s .number
     → Agreeing s o → Agreeing t o
 agreeing-kept s t o q m x n h = record {
   is-there = ap (λ (v : Slot). v .present) q ∙ h .is-there;
@@ -54,7 +57,8 @@ ours-proposed m n s l =
     record {
       office = rw (r .own-is) l;
       has-its = λ b. subst (Agreeing (proposed m n s)) (sym (r .own-is))
-          (slot-agrees (proposed m n s) (s .own) (ownProposal m n s) q (h .1 ∙ ap kindOf (sym (r .mode-is))) (h .2 ∙ sym (r .net-is)) (h .4 ∙ sym (r .number-is)));
+          (slot-agrees (proposed m n s) (s .own) (ownProposal m n s) q (h .1 ∙ ap kindOf (sym (r .mode-is)))
+          (h .2 ∙ sym (r .net-is)) (h .4 ∙ sym (r .number-is)));
     }
 
 ours-slow : (s : State) → s .own < 16 → (m : Mode) → Ours (proposesSlow (beginsIn m s .state) .state)
@@ -78,7 +82,8 @@ stages = record {
 report-awaits : (s : State) (r : Report) → s .own < 16 → Awaits s → Awaits (reportRule s r .state)
 report-awaits s r l k = staged-report stages s r (λ e. k)
     (λ e. record { unmet = λ b v. absurd (true-false _ v e); own-has = λ b v. absurd (true-false _ v e) })
-    (λ e. unfold andThen opens opened withNet proposesFast in ours-proposed Fast _ (opened (withNet s (netAfter (s .net .bits) r))) l)
+    (λ e. unfold andThen opens opened withNet proposesFast in
+    ours-proposed Fast _ (opened (withNet s (netAfter (s .net .bits) r))) l)
 
 -- a proposal that passes the checks
 module _ (s : State) (p : Proposal) (c : Passes s p) (l : s .own < 16) (k : Awaits s) where
@@ -98,7 +103,9 @@ module _ (s : State) (p : Proposal) (c : Passes s p) (l : s .own < 16) (k : Awai
   own-agrees : Agreeing s (s .own) → Agreeing t (t .own)
   own-agrees h =
       let r = received-reads s p in
-      subst (Agreeing t) (sym (r .own-is)) (agreeing-kept s t (s .own) (elsewhere (s .own) l (λ q. c .other (sym q))) (r .mode-is) (r .net-is) (r .number-is) h)
+      subst (Agreeing t) (sym (r .own-is))
+      (agreeing-kept s t (s .own) (elsewhere (s .own) l (λ q. c .other (sym q))) (r .mode-is) (r .net-is)
+      (r .number-is) h)
 
   same-members : p .members .bits ≡ s .net .bits → Ours t
   unfolding seated
@@ -115,14 +122,17 @@ module _ (s : State) (p : Proposal) (c : Passes s p) (l : s .own < 16) (k : Awai
       go true v =
           let r = received-reads s p in
           let q = r .stored-is (p .sender) (c .sender) ∙ upd-same (storedAt s) (p .sender) (keeping p) in
-          d (sym (ap (λ (v : Slot). v .proposal .members .bits) q) ∙ a .every (p .sender) (c .sender) (rw (r .net-is) v) .same-members ∙ r .net-is)
-      go false v = true-false _ (agreed-in s (record { busy = λ m. a .busy (received-reads s p .mode-is ∙ m); every = others })) e
+          d (sym (ap (λ (v : Slot). v .proposal .members .bits) q)
+          ∙ a .every (p .sender) (c .sender) (rw (r .net-is) v) .same-members ∙ r .net-is)
+      go false v = true-false _ (agreed-in
+          s (record { busy = λ m. a .busy (received-reads s p .mode-is ∙ m); every = others })) e
         where
           others : (o : ℕ) → o < 16 → serves (s .net .bits) o ≡ true → Agreeing s o
           others o b w =
               let r = received-reads s p in
               let n : o ≡ p .sender → ⊥ = λ q. true-false _ (rw q at w) v in
-              agreeing-kept t s o (sym (elsewhere o b n)) (sym (r .mode-is)) (sym (r .net-is)) (sym (r .number-is)) (a .every o b (rw (r .net-is) w))
+              agreeing-kept t s o (sym (elsewhere o b n)) (sym (r .mode-is)) (sym (r .net-is)) (sym (r .number-is))
+              (a .every o b (rw (r .net-is) w))
 
   other-members : (p .members .bits ≡ s .net .bits → ⊥) → Awaits t
   other-members d = record {

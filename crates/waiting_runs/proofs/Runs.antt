@@ -1,4 +1,5 @@
--- Over every run of one office from fresh, after each event: the answer is never that the agreement test is met, and never the own office.
+-- Over every run of one office from fresh, after each event: the answer is never that the agreement test is met, and
+-- never the own office.
 use mathlib.Core.Path.{_≡_, refl, sym, _∙_}
 use mathlib.Core.Logic.{_⊎_, inl, inr}
 use mathlib.Core.List.{List}
@@ -24,14 +25,16 @@ awaits-next : (s : State) (h : Input) → Awaits s → Awaits (nextState s h)
 unfolding answerTo
 awaits-next s h k = go (take-cases s (h .event) (h .room))
   where
-    go : Refused s (takeOf s (h .event) (h .room)) ⊎ Takes s (h .event) (h .room) → Awaits (takeOf s (h .event) (h .room) .state)
+    go : Refused s (takeOf s (h .event) (h .room)) ⊎ Takes s (h .event) (h .room)
+        → Awaits (takeOf s (h .event) (h .room) .state)
     go (inl r) = rw (r .is) k
     go (inr a) =
         rw (take-accepts s (h .event) (h .room) a)
         (event-awaits s (h .event) (well-facts s (a .well) .own) (a .acts .passes) k)
 
 awaits-fresh : (own : ℕ) → Awaits (fresh own)
-awaits-fresh own = let none = fresh-reads own .mode-is in record { unmet = λ b v. absurd (b none); own-has = λ b v. absurd (b none) }
+awaits-fresh own = let none = fresh-reads own .mode-is in
+    record { unmet = λ b v. absurd (b none); own-has = λ b v. absurd (b none) }
 
 -- with the office's number
 record Along (own : ℕ) (s : State) : Type 0 where
@@ -43,7 +46,9 @@ module _ (own : ℕ) (hs : List Input) where
   after = stateAfter (fresh own) hs
 
   along : Along own after
-  along = after-keeps (Along own) (λ s h k. record { office = answer-ends s h .0 .own ∙ k .office; awaits = awaits-next s h (k .awaits) }) (fresh own)
+  along = after-keeps (Along own)
+      (λ s h k. record { office = answer-ends s h .0 .own ∙ k .office; awaits = awaits-next s h (k .awaits) })
+      (fresh own)
       (record { office = fresh-reads own .own-is; awaits = awaits-fresh own }) hs
 
   pub never-met : waitingFor after ≡ answers.Met → ⊥
@@ -66,4 +71,6 @@ module _ (own : ℕ) (hs : List Input) where
           let b = busy-out after y in
           let d : o ≡ own = cc in
           let i : o ≡ after .own = d ∙ sym (along .office) in
-          true-false _ (agreeing-in after (after .mode) (after .own) refl (b .0) (along .awaits .own-has (b .0) (b .1))) (rw i at (l .lacking))
+          true-false _ (agreeing-in
+          after (after .mode) (after .own) refl (b .0) (along .awaits .own-has (b .0) (b .1)))
+          (rw i at (l .lacking))
