@@ -135,6 +135,34 @@ module _ (b : List ℕ) where
       go (proposal-mark m e) = let z = kind-of e h in absurd (omega arith)
       go (other-mark e) = rw e
 
+  -- a report and a proposal have a length, nothing else has
+  pub report-long : formOf b .kind ≡ kinds.Report → formOf b .length ≡ 0 → ⊥
+  unfolding kind-number
+  report-long h = go (marked b)
+    where
+      go : Marked b → formOf b .length ≡ 0 → ⊥
+      go (report-mark m e) z = let l = ap (λ (f : Form). f .length) (sym e) ∙ z in absurd (omega arith)
+      go (proposal-mark m e) z = let k = kind-of e h in absurd (omega arith)
+      go (other-mark e) z = let k = kind-of e h in absurd (omega arith)
+
+  pub proposal-long : formOf b .kind ≡ kinds.Proposal → formOf b .length ≡ 0 → ⊥
+  unfolding kind-number
+  proposal-long h = go (marked b)
+    where
+      go : Marked b → formOf b .length ≡ 0 → ⊥
+      go (report-mark m e) z = let k = kind-of e h in absurd (omega arith)
+      go (proposal-mark m e) z = let l = ap (λ (f : Form). f .length) (sym e) ∙ z in absurd (omega arith)
+      go (other-mark e) z = let k = kind-of e h in absurd (omega arith)
+
+  pub other-long : formOf b .kind ≡ kinds.Other → formOf b .length ≡ 0
+  unfolding kind-number
+  other-long h = go (marked b)
+    where
+      go : Marked b → formOf b .length ≡ 0
+      go (report-mark m e) = let k = kind-of e h in absurd (omega arith)
+      go (proposal-mark m e) = let k = kind-of e h in absurd (omega arith)
+      go (other-mark e) = ap (λ (f : Form). f .length) e
+
   -- they pass a report, a proposal and nothing else
   pub report-checks : checkOwn reportMark reportLength b ≡ 0 → checkOf b ≡ 0
   unfolding formOf formFor

@@ -12,10 +12,12 @@ use lib.Dec.{eqb, ltb, leb}
 use borrow.Author.Tests.{eqb-true, eqb-false, ltb-true, ltb-false, ne-eqb, lt-ltb, le-leb, lt-leb}
 use Rattle.laws.proofs.Fin.{if-same}
 use Rattle.laws.specs.Lists.{none, more}
-use Rattle.records.proofs.CheckLaws.{long-mark, check-passes}
+use Rattle.records.proofs.CheckLaws.{long-mark, check-passes, report-long, proposal-long, other-long}
 use Rattle.records.proofs.CheckLaws.{Marked, report-mark, proposal-mark, other-mark, marked}
 use Rattle.records.specs.Layout.{markOf, formFor, formOf, checkFor, checkOf}
-use Rattle.records.specs.Run.{runCheck, fitting, runSize, runFirst, runRest}
+use Rattle.records.specs.declared.Form.{Form}
+use Rattle.records.specs.declared.RecordKind.the-variants as kinds
+use Rattle.records.specs.Run.{tooFew, runCheck, fitting, runSize, runFirst, runRest}
 use Rattle.records.specs.Run.{readingIn, readingOf, Ends, WholeReading}
 
 -- what stands in front of a run: nothing, another mark, too few bytes, or a whole record
@@ -39,6 +41,22 @@ front w = go (eqb (length w) 0) (eqb n 0) (ltb (length w) n) refl refl refl
         short (pos-of-ne-zero (eqb-false (length w) 0 d)) (ltb-true (length w) n f) (rw (d, e, f))
     go false false false d e f =
         whole (pos-of-ne-zero (eqb-false n 0 e)) (ltb-false (length w) n f) (rw (d, e, f)) (rw (d, e, f))
+
+-- the number with which a run that has bytes ends here, by the kind of the record in front
+module _ (b : List ℕ) (f : Form) (some : length b ≡ 0 → ⊥) (is : f ≡ formOf b) where
+  by-length : (formOf b .length ≡ 0 → ⊥) → tooFew (f .length) b ≡ runCheck b
+  unfolding runCheck
+  by-length n = rw (is, ne-eqb _ _ some, ne-eqb _ _ n)
+
+  pub ends-report : f .kind ≡ kinds.Report → tooFew (f .length) b ≡ runCheck b
+  ends-report k = by-length (report-long b (ap (λ (g : Form). g .kind) (sym is) ∙ k))
+
+  pub ends-proposal : f .kind ≡ kinds.Proposal → tooFew (f .length) b ≡ runCheck b
+  ends-proposal k = by-length (proposal-long b (ap (λ (g : Form). g .kind) (sym is) ∙ k))
+
+  pub ends-other : f .kind ≡ kinds.Other → 4 ≡ runCheck b
+  unfolding runCheck
+  ends-other k = let z = other-long b (ap (λ (g : Form). g .kind) (sym is) ∙ k) in rw (ne-eqb _ _ some, z)
 
 -- under two bytes are no mark
 pub form-none : (w : List ℕ) → length w < 2 → formOf w .length ≡ 0

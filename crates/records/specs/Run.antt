@@ -10,10 +10,14 @@ use Rattle.laws.specs.Lists.{Every}
 use Rattle.laws.specs.Upd.{ifb}
 use Rattle.records.specs.Layout.{formOf, checkOf}
 
+-- 5 where fewer than n bytes remain
+abbrev pub tooFew : ℕ → List ℕ → ℕ
+tooFew n b = ifb (ltb (length b) n) 5 0
+
 -- the number with which a run ends here: 0 where nothing remains, else by checks 4 and 5, where 5 means that fewer
 -- bytes remain than the mark's length; 0 too where a whole record stands in front
 unfoldable pub runCheck : List ℕ → ℕ
-runCheck b = ifb (eqb (length b) 0) 0 (ifb (eqb (formOf b .length) 0) 4 (ifb (ltb (length b) (formOf b .length)) 5 0))
+runCheck b = ifb (eqb (length b) 0) 0 (ifb (eqb (formOf b .length) 0) 4 (tooFew (formOf b .length) b))
 
 -- n where a run has so many bytes, else 0
 abbrev pub fitting : ℕ → List ℕ → ℕ

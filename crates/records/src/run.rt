@@ -1,9 +1,17 @@
 // The reading of a run of records: each is handed back as a part of the caller's own input.
+use crate::RecordKind;
 use crate::form_of;
 ghost use mathlib.Core.Path.{_≡_};
 ghost use lib.ListN.{length};
 ghost use Prim.Native.Nat.{_≤_};
-ghost use Rattle.records.specs.Run.{runCheck, fitting, runSize, runFirst, runRest, Part};
+ghost use Rattle.records.specs.Run.{tooFew, runCheck, fitting, runSize, runFirst, runRest, Part};
+
+// 5 where fewer bytes remain than the mark's length.
+fn too_few(n: usize, run: &[u8]) -> u8
+    ensures { λ r. ⌜ r ≡ tooFew n (now (run .entry)) ⌝ }
+{
+    if run.len() < n { 5 } else { 0 }
+}
 
 // The number with which the run ends here; 0 where nothing remains, or where a whole record stands in front.
 pub fn run_check(run: &[u8]) -> u8
@@ -13,10 +21,12 @@ pub fn run_check(run: &[u8]) -> u8
         return 0;
     }
     let f = form_of(run);
-    if f.length == 0 {
-        return 4;
+    let kind = f.kind;
+    match kind {
+        RecordKind::Report => too_few(f.length, run),
+        RecordKind::Proposal => too_few(f.length, run),
+        RecordKind::Other => 4,
     }
-    if run.len() < f.length { 5 } else { 0 }
 }
 
 // The number n where the run has so many bytes, else 0.

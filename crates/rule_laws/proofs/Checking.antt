@@ -1,16 +1,14 @@
 -- Checks 6 to 12 in their order.
 use mathlib.Core.Path.{_≡_, refl, sym, _∙_}
-use mathlib.Core.Bool.{Bool, true, false, not, _&&_, _||_}
+use mathlib.Core.Bool.{Bool, true, false}
 use Prim.Native.Nat.{ℕ, _≤_, _<_}
 use native.Mathlib.Omega.{arith}
 use lib.Dec.{eqb, ltb}
 use borrow.Author.Tests.{lt-ltb, le-ltb, le-leb, lt-leb, ltb-false, ne-eqb}
 use Rattle.laws.proofs.Fin.{or-l}
-use Rattle.laws.specs.Fin.{anyb}
 use Rattle.laws.specs.Upd.{ifb}
-use Rattle.seats.specs.Offices.{serves}
 use Rattle.records.specs.declared.Proposal.{Proposal}
-use Rattle.rules.specs.State.{State, fast, slow, acceptedAt, usedFor}
+use Rattle.rules.specs.State.{State, acceptedAt, usedFor}
 use Rattle.laws.specs.Checks.{firstOf}
 use Rattle.rules.specs.Refusals.{formChecks, wrongSender, wrongKind, wrongNumber, withoutSeat, strayUsed, notAbove}
 use Rattle.rules.specs.Refusals.{usedAhead, proposalChecks}
@@ -30,50 +28,6 @@ first-then false false false false false r = refl
 first-sender : (a b c d e : Bool) → first a b c d e 0 ≡ 0 → a ≡ false
 first-sender true b c d e z = absurd (omega arith)
 first-sender false b c d e z = refl
-
--- 6 to 10, by their tests
-module _ (own : ℕ) (p : Proposal) where
-  abbrev badSender : Bool
-  badSender = ltb 15 (p .sender) || eqb (p .sender) own
-
-  abbrev badKind : Bool
-  badKind = not (eqb (p .kind) fast) && not (eqb (p .kind) slow)
-
-  abbrev seatless : Bool
-  seatless = not (serves (p .members .bits) (p .sender)) || not (serves (p .members .bits) own)
-
-  abbrev stray : Bool
-  stray = anyb 16 (λ o. not (serves (p .members .bits) o) && not (eqb (usedFor p o) 0))
-
-  neither : (a b : Bool) → not (a || b) ≡ not a && not b
-  neither true b = refl
-  neither false b = refl
-
-  by-tests : firstOf (formChecks own p) ≡ first badSender badKind (wrongNumber p) seatless stray 0
-  unfolding wrongSender wrongKind withoutSeat strayUsed
-  by-tests = rw (neither (eqb (p .kind) fast) (eqb (p .kind) slow))
-
-  pub form-6 : badSender ≡ true → 6 ≡ firstOf (formChecks own p)
-  form-6 a = rw (by-tests, a)
-
-  module _ (a : badSender ≡ false) where
-    pub form-7 : badKind ≡ true → 7 ≡ firstOf (formChecks own p)
-    form-7 b = rw (by-tests, a, b)
-
-    module _ (b : badKind ≡ false) where
-      pub form-8 : wrongNumber p ≡ true → 8 ≡ firstOf (formChecks own p)
-      form-8 c = rw (by-tests, a, b, c)
-
-      module _ (c : wrongNumber p ≡ false) where
-        pub form-9 : seatless ≡ true → 9 ≡ firstOf (formChecks own p)
-        form-9 d = rw (by-tests, a, b, c, d)
-
-        module _ (d : seatless ≡ false) where
-          pub form-10 : stray ≡ true → 10 ≡ firstOf (formChecks own p)
-          form-10 e = rw (by-tests, a, b, c, d, e)
-
-          pub form-0 : stray ≡ false → 0 ≡ firstOf (formChecks own p)
-          form-0 e = rw (by-tests, a, b, c, d, e)
 
 module _ (s : State) (p : Proposal) (n : ℕ) (e : n ≡ firstOf (formChecks (s .own) p)) where
   split : firstOf (proposalChecks s p) ≡ ifb (eqb n 0) (ifb (notAbove s p) 11 (ifb (usedAhead s p) 12 0)) n

@@ -1,8 +1,7 @@
-use Prim.Native.Nat.{_<_}
-use native.Mathlib.Omega.{arith}
-use lib.ListN.{length}
-use borrow.Author.Tests.{lt-ltb, le-ltb, eq-eqb, ne-eqb}
+use mathlib.Core.Path.{_∙_}
+use borrow.Author.Tests.{eq-eqb}
 use Rattle.records.specs.Run.{runCheck}
+use Rattle.records.proofs.RunLaws.{ends-report, ends-proposal, ends-other}
 use borrow.Author.Needs.{needs}
 use Rattle.records.proofs.run.run_check.Statement.{statement}
 use Rattle.records.proofs.run.run_check.Tie as tie
@@ -14,37 +13,50 @@ returns c = simp (eq-eqb _ _ (c .if1 .taken))
 form-of-requires : tie.Need-form-of-requires
 form-of-requires c κs = search needs
 
+enum-told : tie.Need-enum-told
+enum-told c = search needs
+
+too-few-requires : tie.Need-too-few-requires
+too-few-requires c κs = search needs
+
+enum-told-2 : tie.Need-enum-told-2
+enum-told-2 c = search needs
+
+too-few-requires-2 : tie.Need-too-few-requires-2
+too-few-requires-2 c κs = search needs
+
+enum-told-3 : tie.Need-enum-told-3
+enum-told-3 c = search needs
+
 returns-2 : tie.Need-returns-2
-unfolding runCheck
-returns-2 c = rw (
-  ne-eqb _ _ (c .before .before .before .if1 .left),
-  ← c .before .before .form-of .ensures,
-  eq-eqb _ _ (c .if2 .taken),
-)
+returns-2 c =
+    let f = c .before .before .before in
+    c .too-few .ensures
+    ∙ ends-report _ (f .form-of .result) (f .before .if1 .left) (f .form-of .ensures) (c .before .enum-told .given .1)
 
 returns-3 : tie.Need-returns-3
-unfolding runCheck
 returns-3 c =
-    let f = c .before .before .before .before in
-    let t = c .if3 .taken in
-    let short : length (f .before .before .before .args .run .now) < f .form-of .result .length = omega arith in
-    rw (
-      ne-eqb _ _ (f .before .if1 .left),
-      ← f .form-of .ensures,
-      ne-eqb _ _ (c .before .before .if2 .left),
-      lt-ltb _ _ short,
-    )
+    let f = c .before .before .before in
+    c .too-few2 .ensures
+    ∙ ends-proposal _ (f .form-of .result) (f .before .if1 .left) (f .form-of .ensures)
+    (c .before .enum-told2 .given .1)
 
 returns-4 : tie.Need-returns-4
-unfolding runCheck
 returns-4 c =
-    let f = c .before .before .before .before in
-    rw (
-      ne-eqb _ _ (f .before .if1 .left),
-      ← f .form-of .ensures,
-      ne-eqb _ _ (c .before .before .if2 .left),
-      le-ltb _ _ (c .if3 .left),
-    )
+    let f = c .before .before in
+    ends-other _ (f .form-of .result) (f .before .if1 .left) (f .form-of .ensures) (c .enum-told3 .given .1)
 
 pub run-check-spec : {M : Type 1} → statement M
-run-check-spec = tie.close (tie.spec returns form-of-requires returns-2 returns-3 returns-4)
+run-check-spec =
+    tie.close
+    (tie.spec
+    returns
+    form-of-requires
+    enum-told
+    too-few-requires
+    enum-told-2
+    too-few-requires-2
+    enum-told-3
+    returns-2
+    returns-3
+    returns-4)
