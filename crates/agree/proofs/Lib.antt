@@ -1,5 +1,5 @@
--- The laws, in the order of the modules that they serve: lacking, new_view, round_end, agreement.
+-- The laws, in the order of the modules that they serve: lacking, new_view (claims names these), round_end, agreement.
 mod Looking
-mod Laying
+pub mod Laying
 mod Emptying
 mod Agreeing
