@@ -12,9 +12,10 @@ ghost use Rattle.text.specs.Lines.{noOffice};
 ghost use Rattle.feed.specs.TurnReady.{Lent};
 ghost use Rattle.feed.specs.Whole.{Ran};
 
-// a record answered: the state that the program holds, and the line behind what is unwritten
+// A record answered: the state that the program holds, and the line behind what is unwritten.
 mod answering;
-// a turn: what is due is written, then more is read or a record answered
+
+// A turn: what is due is written, then more is read or a record answered.
 mod turning;
 
 // Where the turns end: `more` where they ran out.

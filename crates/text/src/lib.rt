@@ -9,9 +9,10 @@ ghost use Rattle.text.specs.Lengths.{nextLength, numbersLength, traceLen
 ghost use Rattle.text.specs.Put.{Put};
 ghost use Rattle.text.specs.Text.{traceOf, numbersOf, lineOf};
 
-// numbers and bytes in digits
+// Numbers and bytes in digits.
 mod digits;
-// which line is the last
+
+// Which line is the last.
 pub mod lines;
 
 // The most that a line takes beside the bytes that it shows: four numbers, a space behind each, its end.
