@@ -5,7 +5,7 @@ use Prim.Native.Nat.{ℕ}
 use lib.ListN.{getD}
 use Rattle.laws.specs.Lists.{Every, none, more}
 use Rattle.rules.specs.State.{State}
-use Rattle.rules.specs.Refusals.{stepOf}
+use Rattle.rules.specs.Refusals.{fullRoom, stepOf}
 use Rattle.rules.specs.Days.{Day, given, computed, stated, refusals, reasons}
 use Rattle.rules.proofs.Days.{days, each-reason}
 use Rattle.claims.specs.Demand1.{Met}
@@ -15,7 +15,7 @@ by-step s b room e = (s, b, room, e)
 
 by-given : (s : State) (b : List ℕ) {n : ℕ} → given s b .refusal ≡ n → Met n
 unfolding given
-by-given s b e = (s, b, 182, e)
+by-given s b e = (s, b, fullRoom, e)
 
 input : (k : ℕ) → getD refusals k 0 ≡ getD reasons k 0
 input k = ap (λ (l : List ℕ). getD l k 0) each-reason

@@ -22,7 +22,7 @@ use Rattle.records.specs.Numbers.{limit}
 use Rattle.rules.specs.Refusals.{Result, slotWithin, wellFormed, unreadable, eventOf, wrongSender, wrongKind}
 use Rattle.rules.specs.Refusals.{wrongNumber, withoutSeat}
 use Rattle.rules.specs.Refusals.{strayUsed, notAbove, usedAhead, proposalChecks, accepting, actOf, takeOf}
-use Rattle.rules.specs.Refusals.{stepOf, allBytes}
+use Rattle.rules.specs.Refusals.{fullRoom, stepOf, allBytes}
 
 -- what is seen of a day: the refusal or 0, the bytes written, the records they are, the current view number
 pub record Day : Type 0 where
@@ -65,7 +65,7 @@ unfolding upd allb anyb largest tab bytesAll bit has unionOf withoutOf serves en
     slowTest agreesKind isNone agreed startOf viewOf concluded agreementTest tests changeRule reportRule proposalRule slotWithin wellFormed unreadable
     eventOf wrongSender wrongKind wrongNumber withoutSeat strayUsed notAbove usedAhead proposalChecks accepting actOf
     takeOf stepOf allBytes
-given s b = stepOf s b 182
+given s b = stepOf s b fullRoom
 
 -- what is handed in: a report of joining and of leaving seats, one of joining seats only, and P of document 01
 abbrev pub reported : State → ℕ → ℕ → Result

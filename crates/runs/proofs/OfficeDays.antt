@@ -9,14 +9,14 @@ use Rattle.records.specs.declared.Proposal.{Proposal}
 use Rattle.records.specs.declared.View.{View}
 use Rattle.rules.specs.State.{fast, zeros}
 use Rattle.rules.specs.Rules.{fresh}
-use Rattle.rules.specs.Refusals.{aReport, aProposal}
+use Rattle.rules.specs.Refusals.{fullRoom, aReport, aProposal}
 use Rattle.rules.specs.Days.{given}
 use Rattle.runs.specs.Office.{Input, answerTo, LogEntry, stateAfter, logOf, Before, at-once, testedIn, CountedAt}
 
 abbrev joins : ℕ → Input
 joins x = record {
   event = aReport (record { joining = record { bits = x }; leaving = record { bits = 0 } });
-  room = 182;
+  room = fullRoom;
 }
 
 -- sixteen numbers, those of offices 0 and 1 first
@@ -36,7 +36,7 @@ made sender members start number used =
 
 -- what is handed in: the seats 0 and 4 join, and the proposal of office 1 arrives
 abbrev fromOffice1 : Input
-fromOffice1 = record { event = aProposal (made 1 0b10001 1 1 zeros); room = 182 }
+fromOffice1 = record { event = aProposal (made 1 0b10001 1 1 zeros); room = fullRoom }
 
 abbrev threeDays : List Input
 threeDays = joins 0b1 ∷ joins 0b10000 ∷ fromOffice1 ∷ []

@@ -5,11 +5,12 @@
 use mathlib.Core.Path.{_≡_, refl, ap}
 use mathlib.Core.List.{[], _∷_}
 use Rattle.rules.specs.State.{zeros}
-use Rattle.runs.specs.World.{report, delivery, loss}
+use Rattle.runs.specs.World.{delivery, loss}
 use Rattle.settling.specs.Statement.{Assumed, AllReported}
 use Rattle.settling.specs.Scenarios.{Scenario, stateIn, linkIn, changeAt}
 use Rattle.settling.proofs.Scenarios.{meets-all, reported}
-use Rattle.settling.specs.Scenarios.{Summary, summary, no-view, sent-at, join, leave, hand, inNone, three}
+use Rattle.settling.specs.Scenarios.{Summary, summary, no-view, sent-at, change, join, leave, hand, shortRoom}
+use Rattle.settling.specs.Scenarios.{inNone, three}
 
 -- 1. Both offices are told of {0, 4}: each proposes with start 1 and number 1. Each takes the other's proposal and
 -- sends view 2.
@@ -121,8 +122,8 @@ refusals =
             };
           } ∷ [];
       events =
-          join 0 4097 ∷ delivery 0 3 181 ∷ hand 3 0 ∷ join 3 1 ∷ hand 3 0
-          ∷ report 0 (record { joining = record { bits = 16 }; leaving = record { bits = 4096 } }) 182 ∷ join 1 17
+          join 0 4097 ∷ delivery 0 3 shortRoom ∷ hand 3 0 ∷ join 3 1 ∷ hand 3 0
+          ∷ change 0 16 4096 ∷ join 1 17
           ∷ hand 1 0 ∷ hand 0 1 ∷ [];
     }
 
@@ -189,7 +190,7 @@ repeating =
       posted = [];
       events =
           join 0 17 ∷ join 0 17 ∷ join 1 17 ∷ join 1 17 ∷ hand 0 1
-          ∷ report 0 (record { joining = record { bits = 273 }; leaving = record { bits = 256 } }) 182
+          ∷ change 0 273 256
           ∷ hand 1 0 ∷ join 0 16 ∷ leave 1 256 ∷ [];
     }
 

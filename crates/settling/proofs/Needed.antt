@@ -7,7 +7,8 @@ use Rattle.rules.specs.State.{zeros}
 use Rattle.runs.specs.World.{report, delivery, loss}
 use Rattle.settling.specs.Scenarios.{Scenario, starts-fresh, no-mail, others-pass, net-is-A, full-room}
 use Rattle.settling.specs.Scenarios.{no-ceiling, none-lost}
-use Rattle.settling.specs.Scenarios.{fails, failsByReport, summary, no-view, sent-at, join, hand, inNone, three}
+use Rattle.settling.specs.Scenarios.{fails, failsByReport, summary, no-view, sent-at, change, join, hand}
+use Rattle.settling.specs.Scenarios.{shortRoom, inNone, three}
 
 -- none-lost: office 0's only proposal is lost after its last report. Office 0 sends view 2, office 1 none.
 abbrev lost-after : Scenario
@@ -88,7 +89,7 @@ no-room = record {
   set = 17;
   begun = [];
   posted = [];
-  events = join 0 17 ∷ join 1 17 ∷ delivery 0 1 181 ∷ hand 1 0
+  events = join 0 17 ∷ join 1 17 ∷ delivery 0 1 shortRoom ∷ hand 1 0
       ∷ [];
 }
 
@@ -116,7 +117,7 @@ repeat-without-room =
       begun = [];
       posted = [];
       events = join 0 17 ∷ join 1 17
-          ∷ report 0 (record { joining = record { bits = 17 }; leaving = record { bits = 0 } }) 181 ∷ hand 0 1
+          ∷ report 0 (record { joining = record { bits = 17 }; leaving = record { bits = 0 } }) shortRoom ∷ hand 0 1
           ∷ hand 1 0 ∷ [];
     }
 
@@ -147,8 +148,8 @@ at-ceiling =
           } ∷ [];
       events =
           join 0 17 ∷ join 1 17 ∷ hand 0 1 ∷ hand 1 0
-          ∷ report 0 (record { joining = record { bits = 256 }; leaving = record { bits = 16 } }) 182 ∷ hand 2 0
-          ∷ report 0 (record { joining = record { bits = 16 }; leaving = record { bits = 256 } }) 182 ∷ hand 0 1 ∷ [];
+          ∷ change 0 256 16 ∷ hand 2 0
+          ∷ change 0 16 256 ∷ hand 0 1 ∷ [];
     }
 
 at-ceiling-summary :

@@ -15,7 +15,7 @@ use Rattle.seats.specs.Offices.{serves, countOf}
 use Rattle.records.specs.declared.Proposal.{Proposal}
 use Rattle.rules.specs.State.{None, State, zeros, nothing}
 use Rattle.rules.specs.Rules.{fresh}
-use Rattle.rules.specs.Refusals.{wellFormed}
+use Rattle.rules.specs.Refusals.{wellFormed, fullRoom}
 use Rattle.rules.specs.Days.{given}
 use Rattle.runs.specs.World.{netOne, netBy, Item, SentView, viewsIn, World, atFirst, WorldEvent, report, delivery}
 use Rattle.runs.specs.World.{loss, answered, withLink, idle, reportAnswer, proposalAnswer, next, run, at}
@@ -252,15 +252,22 @@ summary p =
       views = latest (viewsIn (end .log 0)) ∷ latest (viewsIn (end .log 1)) ∷ latest (viewsIn (end .log 2)) ∷ [];
     }
 
--- For short. Reports, and deliveries with full output room
+-- For short. Reports, and deliveries with full output room; a room that is one byte short
+abbrev pub change : ℕ → ℕ → ℕ → WorldEvent
+change o joining leaving =
+    report o (record { joining = record { bits = joining }; leaving = record { bits = leaving } }) fullRoom
+
 abbrev pub join : ℕ → ℕ → WorldEvent
-join o x = report o (record { joining = record { bits = x }; leaving = record { bits = 0 } }) 182
+join o x = change o x 0
 
 abbrev pub leave : ℕ → ℕ → WorldEvent
-leave o x = report o (record { joining = record { bits = 0 }; leaving = record { bits = x } }) 182
+leave o x = change o 0 x
+
+abbrev pub shortRoom : ℕ
+shortRoom = fullRoom - 1
 
 abbrev pub hand : ℕ → ℕ → WorldEvent
-hand i j = delivery i j 182
+hand i j = delivery i j fullRoom
 
 -- an office in mode none with nothing stored and no view yet
 abbrev pub inNone : (own net start number : ℕ) (accepted used : List ℕ) → State
