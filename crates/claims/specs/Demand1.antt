@@ -28,7 +28,7 @@ use Rattle.step.proofs.Holds.{InFront}
 use Rattle.code_runs.specs.Rows.{Handed, rowAfter, rowSent, inputsOf}
 use Rattle.text.specs.Lines.{textOf}
 use Rattle.text.proofs.Example as Example
-use Rattle.feed.specs.Held.{StateMade}
+use Rattle.feed.specs.Made.{StateMade}
 use Rattle.feed.specs.Whole.{Stand, Run}
 
 -- a number that the step gives for some state, bytes and output

@@ -12,7 +12,7 @@ use Rattle.rule_laws.proofs.Sizes.{step-size}
 use Rattle.rules.specs.Refusals.{fullRoom, Result, stepOf, allBytes, size}
 use Rattle.row.specs.Row.{stateOf}
 use Rattle.text.specs.Lines.{lineFor, goesOn}
-use Rattle.feed.specs.Held.{HeldStep}
+use Rattle.step.specs.Held.{HeldStep}
 use Rattle.feed.specs.Answered.{Answered}
 use Rattle.buffers.specs.declared.input.Place.{Place}
 use Rattle.step.specs.declared.answers.Answer.{Answer}

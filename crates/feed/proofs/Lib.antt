@@ -1,8 +1,7 @@
--- answering::held
-mod Holding
 -- answering
 mod AnsweringLaws
 -- turning
 mod TurningLaws
--- the crate's root: the loop, and the whole text
+-- the crate's root: a state made, the loop, and the whole text
+mod MadeLaws
 pub mod Whole

@@ -14,7 +14,7 @@ use Rattle.laws.proofs.Fin.{true-false}
 use Rattle.records.specs.Run.{runCheck}
 use Rattle.row.specs.Row.{stateOf}
 use Rattle.text.specs.Lines.{frontOf, behindOf, answerFor, lineFor}
-use Rattle.feed.specs.Held.{Sound}
+use Rattle.step.specs.Held.{Sound}
 use Rattle.feed.specs.TurnReady.{TurnReady}
 use Rattle.buffers.specs.Place.{Within, windowOf, unwrittenOf, waitsOf, Refilled}
 use Rattle.buffers.specs.Room.{bufferLength, roomFor, Sent}

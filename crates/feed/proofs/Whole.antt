@@ -10,7 +10,8 @@ use Rattle.laws.proofs.Fin.{true-false}
 use Rattle.laws.specs.Upd.{ifb}
 use Rattle.row.specs.Row.{stateOf}
 use Rattle.text.specs.Lines.{linesOf, textOf}
-use Rattle.feed.specs.Held.{Sound, StateMade}
+use Rattle.step.specs.Held.{Sound}
+use Rattle.feed.specs.Made.{StateMade}
 use Rattle.buffers.specs.Place.{windowOf, unwrittenOf}
 use Rattle.feed.specs.Turn.{Turns}
 use Rattle.feed.specs.Whole.{Stand, Run, begun, turned, Ran}

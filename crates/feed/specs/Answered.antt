@@ -7,7 +7,7 @@ use Prim.Native.Nat.{ℕ, _+_, _≤_}
 use Rattle.rules.specs.Refusals.{fullRoom, stepOf}
 use Rattle.row.specs.Row.{stateOf}
 use Rattle.text.specs.Lines.{lineFor, goesOn}
-use Rattle.feed.specs.Held.{Sound}
+use Rattle.step.specs.Held.{Sound}
 use Rattle.buffers.specs.Room.{bufferLength}
 use Rattle.buffers.specs.Place.{unwrittenOf}
 use Rattle.buffers.specs.declared.input.Place.{Place}

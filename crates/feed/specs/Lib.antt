@@ -1,4 +1,4 @@
-pub mod Held
+pub mod Made
 pub mod TurnReady
 pub mod Answered
 pub mod Turn

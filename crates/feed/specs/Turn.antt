@@ -9,7 +9,7 @@ use Rattle.laws.specs.Upd.{ifb}
 use Rattle.records.specs.Run.{runCheck}
 use Rattle.row.specs.Row.{stateOf}
 use Rattle.text.specs.Lines.{frontOf, linesOf}
-use Rattle.feed.specs.Held.{Sound}
+use Rattle.step.specs.Held.{Sound}
 use Rattle.buffers.specs.Place.{Within, windowOf, unwrittenOf, waitsOf}
 use Rattle.buffers.specs.declared.input.Place.{Place}
 use Rattle.buffers.specs.Room.{roomFor}

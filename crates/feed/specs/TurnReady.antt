@@ -6,7 +6,7 @@ use lib.ListN.{length}
 use Rattle.buffers.specs.Room.{bufferLength}
 use Rattle.buffers.specs.Place.{Within}
 use Rattle.buffers.specs.declared.input.Place.{Place}
-use Rattle.feed.specs.Held.{Sound}
+use Rattle.step.specs.Held.{Sound}
 
 -- what the program lends to its turns: a sound row and two whole buffers
 pub record Lent (ws i o : List ℕ) : Type 0 where

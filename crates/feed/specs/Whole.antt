@@ -4,7 +4,7 @@ use mathlib.Core.Bool.{Bool, true, false}
 use mathlib.Core.List.{List, [], _++_}
 use Prim.Native.Nat.{ℕ, _+_, _^_, _<_}
 use lib.ListN.{take, drop}
-use Rattle.feed.specs.Held.{Sound}
+use Rattle.step.specs.Held.{Sound}
 use Rattle.buffers.specs.Place.{Within, windowOf, unwrittenOf}
 use Rattle.feed.specs.Turn.{Keeps}
 use Rattle.buffers.specs.declared.input.Place.{Place}

@@ -2,8 +2,8 @@
 use buffers::input::Place;
 use buffers::input::front;
 use buffers::progress::told;
-use held::step_held;
-use row::view_number;
+use step::held::step_held;
+use step::view_number;
 use text::lines::goes_on;
 ghost use Prim.Native.Nat.{_+_, _≤_};
 ghost use Rattle.text.specs.Lines.{frontOf};
@@ -11,9 +11,6 @@ ghost use Rattle.buffers.specs.Room.{bufferLength, mostLine};
 ghost use Rattle.buffers.specs.Place.{windowOf};
 ghost use Rattle.feed.specs.TurnReady.{TurnReady};
 ghost use Rattle.feed.specs.Answered.{Answered};
-
-// the state in its row, handed to the step
-pub mod held;
 
 // Whether the program goes on, and where it then stands.
 pub struct Advanced {

@@ -1,5 +1,4 @@
 // The program: the records of standard input through the step, a line on standard output for each.
-use answering::held::make_state;
 use buffers::input::Place;
 use buffers::output::due;
 use buffers::output::flush;
@@ -8,7 +7,9 @@ ghost use mathlib.Core.Path.{_≡_};
 ghost use Prim.Native.Nat.{_-_, _<_, _≤_};
 ghost use lib.ListN.{length};
 ghost use Rattle.laws.specs.Upd.{ifb};
+ghost use Rattle.row.specs.Row.{rowLength};
 ghost use Rattle.text.specs.Lines.{noOffice};
+ghost use Rattle.feed.specs.Made.{StateMade};
 ghost use Rattle.feed.specs.TurnReady.{Lent};
 ghost use Rattle.feed.specs.Whole.{Ran};
 
@@ -105,6 +106,14 @@ fn office() -> u8 {
     } else {
         16
     }
+}
+
+// Whether the office has a state, which the row then holds, fresh.
+fn make_state(office: u8, state: &mut [u32]) -> bool
+    requires { ⌜ length (now state) ≡ rowLength ⌝ }
+    ensures { λ r. ⌜ StateMade office r (now (state .exit)) ⌝ }
+{
+    step::fresh(office, state) == 0
 }
 
 // The program; `traced` has the bytes written behind each line.

@@ -1,6 +1,6 @@
 // The state of an office in a row of words that the caller lends. Contracts speak of the record State; no function
-// outside this crate names a place of the row. The program asks view_number and checks::is_capped of the row that it
-// holds; all else is inner to the layer of the step.
+// outside this crate names a place of the row. All of it is inner to the layer of the step, which hands on WORDS and
+// view_number.
 
 // The places.
 mod layout;

@@ -1,5 +1,5 @@
 -- The laws, in the order of the modules that they serve: checks, making, refusals, dispatch, the step, the crates
--- above.
+-- above, held.
 mod Readiness
 pub mod FreshRows
 mod Within
@@ -8,3 +8,4 @@ mod Refusal
 pub mod Exits
 mod Unready
 pub mod Holds
+mod HeldLaws

@@ -1,6 +1,5 @@
-// The step: what comes of any bytes on any row of words, in place. step, fresh and Answer are open;
-// dispatch::on_record is inner to the layers of the step and of the program, which knows of its row what checks 2 and
-// 3 ask.
+// The step: what comes of any bytes on any row of words, in place. step, fresh and Answer are open; held asks that its
+// caller knows of the row what checks 2 and 3 ask, as the program does.
 use answers::refuse;
 use checks::unready;
 use dispatch::on_record;
@@ -22,13 +21,17 @@ mod making;
 // The refusal of a record that was read, with check 13.
 mod refusals;
 
-// A record through the step.
-pub mod dispatch;
+// A record through the step, by its kind.
+mod dispatch;
+
+// The step on a row that the caller keeps.
+pub mod held;
 
 pub use answers::Answer;
 pub use checks::ROOM;
 pub use making::fresh;
 pub use row::WORDS;
+pub use row::view_number;
 
 // A refusal leaves every word and byte as it was; acceptance leaves the words of the state that the rules leave.
 pub fn step(state: &mut [u32], record: &[u8], out: &mut [u8]) -> Answer

@@ -1,8 +1,8 @@
 use Rattle.step.proofs.FreshRows.{fresh-holds}
-use Rattle.feed.proofs.Holding.{made}
+use Rattle.feed.proofs.MadeLaws.{made}
 use borrow.Author.Needs.{needs}
-use Rattle.feed.proofs.answering.held.make_state.Statement.{statement}
-use Rattle.feed.proofs.answering.held.make_state.Tie as tie
+use Rattle.feed.proofs.make_state.Statement.{statement}
+use Rattle.feed.proofs.make_state.Tie as tie
 
 fresh-requires : tie.Need-fresh-requires
 fresh-requires c κs = search needs

@@ -1,13 +1,11 @@
 -- A state held in a row of words.
 use mathlib.Core.Path.{_≡_}
-use mathlib.Core.Bool.{Bool, true}
-use mathlib.Core.List.{List, _∷_}
+use mathlib.Core.Bool.{true}
+use mathlib.Core.List.{List}
 use Prim.Native.Nat.{ℕ}
 use lib.Seq.{sets}
-use Rattle.laws.specs.Upd.{ifb}
 use Rattle.rules.specs.Refusals.{wellFormed, Result, allBytes, size}
 use Rattle.row.specs.Row.{Row, stateOf}
-use Rattle.text.specs.Lines.{linesOf, noOffice, textOf}
 
 -- the words are a row, and its state passes check 2
 pub record Sound (ws : List ℕ) : Type 0 where
@@ -21,9 +19,3 @@ pub record HeldStep (q : Result) (o : List ℕ) (refusal written : ℕ) (ws′ o
   pub sound : Sound ws′
   pub same-state : stateOf ws′ ≡ q .state
   pub same-out : o′ ≡ sets o 0 (allBytes (q .written))
-
--- the first byte of the input makes a state, or else the one line is due
-pub record StateMade (office : ℕ) (made : Bool) (ws′ : List ℕ) : Type 0 where
-  pub sound : made ≡ true → Sound ws′
-  pub text : (traced : Bool) (f : List ℕ)
-      → textOf traced (office ∷ f) ≡ ifb made (linesOf traced (stateOf ws′) 0 f) noOffice

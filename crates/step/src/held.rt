@@ -1,13 +1,13 @@
-// The state, held in a row of words that the program lends to the step; inner to the program.
+// The step on a row that the caller made and keeps, and lends a full output with: checks 2 and 3 are known to pass, so
+// this call asks for that. The program uses it; every other caller has step.
+use crate::answers::Answer;
+use crate::dispatch::on_record;
 use row::checks::is_capped;
-use step::Answer;
-use step::dispatch::on_record;
-ghost use mathlib.Core.Path.{_≡_};
 ghost use lib.ListN.{length};
 ghost use Prim.Native.Nat.{_≤_};
 ghost use Rattle.rules.specs.Refusals.{fullRoom, stepOf};
-ghost use Rattle.row.specs.Row.{rowLength, stateOf};
-ghost use Rattle.feed.specs.Held.{Sound, HeldStep, StateMade};
+ghost use Rattle.row.specs.Row.{stateOf};
+ghost use Rattle.step.specs.Held.{Sound, HeldStep};
 
 // The step on the state that the row holds.
 pub fn step_held(state: &mut [u32], record: &[u8], out: &mut [u8]) -> Answer
@@ -18,12 +18,4 @@ pub fn step_held(state: &mut [u32], record: &[u8], out: &mut [u8]) -> Answer
 {
     let low = is_capped(state);
     on_record(state, low, record, out)
-}
-
-// Whether the office has a state, which the row then holds, fresh.
-pub fn make_state(office: u8, state: &mut [u32]) -> bool
-    requires { ⌜ length (now state) ≡ rowLength ⌝ }
-    ensures { λ r. ⌜ StateMade office r (now (state .exit)) ⌝ }
-{
-    step::fresh(office, state) == 0
 }

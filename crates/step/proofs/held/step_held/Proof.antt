@@ -1,10 +1,10 @@
 use Rattle.row.proofs.Low.{is-row, sound-words}
 use Rattle.step.proofs.Holds.{step-holds}
-use Rattle.feed.proofs.Holding.{held-step}
+use Rattle.step.proofs.HeldLaws.{held-step}
 use mathlib.Core.Path.{_∙_}
 use borrow.Author.Needs.{needs}
-use Rattle.feed.proofs.answering.held.step_held.Statement.{statement}
-use Rattle.feed.proofs.answering.held.step_held.Tie as tie
+use Rattle.step.proofs.held.step_held.Statement.{statement}
+use Rattle.step.proofs.held.step_held.Tie as tie
 
 is-capped-requires : tie.Need-is-capped-requires
 is-capped-requires c κs = search needs
