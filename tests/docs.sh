@@ -9,9 +9,9 @@
 #              the paper's names
 #   functions  `crate::module::function` is there
 #   crates     docs/CRATES.md has the crates of crates.txt, under its headings, in its order, each with its modules
-#   counts     each row of the reading order in docs/CLAIMS.md has the lines of its files, and the total is theirs
-#   claims     docs/CLAIMS.md names every field of the claims, by a theorem that claims/proofs/Holds has for it; what
-#              README.md and docs/CLAIMS.md call a claim is a field
+#   counts     each row of the reading order in docs/PROOFS.md has the lines of its files, and the total is theirs
+#   claims     docs/PROOFS.md names every field of the claims, by a theorem that claims/proofs/Holds has for it; what
+#              README.md and docs/PROOFS.md call a claim is a field
 # The last line is 'N passed, M failed', one check for each kind and document; the exit status is 0 only where M is 0.
 set -u
 cd "$(dirname "$(readlink -f "${BASH_SOURCE[0]}")")/.." || exit 1
@@ -176,20 +176,20 @@ while IFS='|' read -r _ files lines _; do
         for file in crates/$path.antt; do
             [ "${file##*/}" = Lib.antt ] || listed+=("$file")
         done
-        exists "$path" || fault "docs/CLAIMS.md: there is no $path"
+        exists "$path" || fault "docs/PROOFS.md: there is no $path"
     done
     count=$(cat "${listed[@]}" | grep -cvE '^ *(--|$)|^use |^pub mod')
     total=$((total + count)) lines=${lines//[, ]/}
-    [ "$count" = "$lines" ] || fault "docs/CLAIMS.md: $count lines of definitions, and not $lines, in ${paths[*]}"
-done < <(grep -E '^\| `[a-z_]+/specs/' docs/CLAIMS.md)
-said=$(joined docs/CLAIMS.md | grep -oE '[0-9,]+ lines of definitions in all' | tr -dc '0-9')
-[ "$said" = "$total" ] || fault "docs/CLAIMS.md: $total lines of definitions in all, and not ${said:-said}"
+    [ "$count" = "$lines" ] || fault "docs/PROOFS.md: $count lines of definitions, and not $lines, in ${paths[*]}"
+done < <(grep -E '^\| `[a-z_]+/specs/' docs/PROOFS.md)
+said=$(joined docs/PROOFS.md | grep -oE '[0-9,]+ lines of definitions in all' | tr -dc '0-9')
+[ "$said" = "$total" ] || fault "docs/PROOFS.md: $total lines of definitions in all, and not ${said:-said}"
 checked
 
 # the claims: the fields of the records, but for those that are records of claims again; and the theorem of each
 sed -nE 's/^  pub ([a-z][A-Za-z0-9-]*) :.*/\1/p' crates/claims/specs/*.antt | sort -u >"$scratch/fields"
 while IFS= read -r field; do
-    grep -qF -- "\`$field\`" docs/CLAIMS.md || fault "docs/CLAIMS.md does not name the claim $field"
+    grep -qF -- "\`$field\`" docs/PROOFS.md || fault "docs/PROOFS.md does not name the claim $field"
 done < <(sed -nE '/ : [A-Z][A-Za-z0-9]*$/d; s/^  pub ([a-z][A-Za-z0-9-]*) :.*/\1/p' crates/claims/specs/*.antt)
 checked
 shown=" $(tr '\n' ' ' <crates/claims/proofs/Holds.antt) "
@@ -197,13 +197,13 @@ while IFS='|' read -r _ _ field theorems _; do
     field=${field//[\` ]/} theorems=${theorems% (*} theorems=${theorems//[\`,]/ }
     for theorem in $theorems; do
         [[ $shown =~ [\ {]$field\ =\ ([^\;]*[^\;A-Za-z0-9-])?$theorem[^A-Za-z0-9-] ]] ||
-            fault "docs/CLAIMS.md: claims/proofs/Holds does not show $field by $theorem"
+            fault "docs/PROOFS.md: claims/proofs/Holds does not show $field by $theorem"
     done
-done < <(grep -E '^\|[^|]*\| `[a-z][A-Za-z0-9-]*` \| `.*/proofs/' docs/CLAIMS.md)
+done < <(grep -E '^\|[^|]*\| `[a-z][A-Za-z0-9-]*` \| `.*/proofs/' docs/PROOFS.md)
 checked
 while IFS= read -r field; do
     grep -qxF -- "$field" "$scratch/fields" || fault "$field is called a claim, and is no field of the claims"
-done < <({ joined README.md && joined docs/CLAIMS.md; } |
+done < <({ joined README.md && joined docs/PROOFS.md; } |
     grep -oE "[Cc]laims? $name((,| and|, and) $name)*" | unquoted | sort -u)
 checked
 

@@ -1,4 +1,4 @@
--- What is claimed, sentence by sentence. The definitions named must be believed; docs/CLAIMS.md has them in order.
+-- What is claimed, sentence by sentence. The definitions named must be believed; docs/PROOFS.md has them in order.
 use mathlib.Core.List.{List}
 use Prim.Native.Nat.{ℕ}
 use Rattle.rules.specs.State.{State}
