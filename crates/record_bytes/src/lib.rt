@@ -1,5 +1,8 @@
 // The five kinds of record as bytes: a reader and a writer for each.
 
+// Numbers as bytes, read and written.
+mod bytes;
+
 // What all readers ask first: the record's own mark and length.
 mod own_checks;
 

@@ -1,5 +1,5 @@
 // The two checks on a record's own mark and length, and the bytes that pass them; inner to this crate.
-use records::bytes::get16;
+use records::get16;
 use records::mark_of;
 ghost use mathlib.Core.Path.{_≡_};
 ghost use Prim.Native.Nat.{_<_};

@@ -1,12 +1,12 @@
 // Reports: the reader of a lone one, total, with the two checks on its own mark and length; the decoder, for a
 // mark that was looked at; and the writer.
+use crate::bytes::get64;
+use crate::bytes::put_mark;
+use crate::bytes::put64;
+use crate::bytes::room;
 use crate::own_checks::accepted;
 use crate::own_checks::check_own;
 use records::Report;
-use records::bytes::get64;
-use records::bytes::put_mark;
-use records::bytes::put64;
-use records::bytes::room;
 use records::layout;
 use seats::SeatSet;
 ghost use mathlib.Core.Path.{_≡_};

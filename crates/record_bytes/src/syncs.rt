@@ -1,12 +1,12 @@
 // Sync records: the reader of a lone one, total, with the two checks on its own mark and length; and the writer.
+use crate::bytes::get32;
+use crate::bytes::put_mark;
+use crate::bytes::put8;
+use crate::bytes::put32;
+use crate::bytes::room;
 use crate::own_checks::accepted;
 use crate::own_checks::check_own;
 use records::Sync;
-use records::bytes::get32;
-use records::bytes::put_mark;
-use records::bytes::put8;
-use records::bytes::put32;
-use records::bytes::room;
 use records::layout;
 ghost use mathlib.Core.Path.{_≡_};
 ghost use Rattle.records.specs.Layout.{syncLength, encodeSync, decodeSync, sized};

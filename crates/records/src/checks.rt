@@ -1,10 +1,23 @@
 // Checks 4 and 5, by the mark's value.
 use crate::Form;
 use crate::RecordKind;
-use crate::bytes::get16;
 use crate::layout;
 ghost use mathlib.Core.Path.{_≡_};
+ghost use Prim.Native.Nat.{_+_, _*_, _<_};
 ghost use Rattle.records.specs.Layout.{markOf, formFor, formOf, checkFor, checkOf};
+
+fn wide16(x: u8) -> u16
+    ensures { λ r. ⌜ (r ≡ x) × (r < 256) ⌝ }
+{
+    x as u16
+}
+
+// Two bytes as one number: a mark's value.
+pub fn get16(a: u8, b: u8) -> u16
+    ensures { λ r. ⌜ r ≡ a * 256 + b ⌝ }
+{
+    wide16(a) * 256 + wide16(b)
+}
 
 // The value of the mark that bytes start with; 0, which is no record's, where there are under two.
 pub fn mark_of(bytes: &[u8]) -> u16

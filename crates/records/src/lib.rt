@@ -5,9 +5,6 @@ use seats::SeatSet;
 // Each mark, length and place.
 pub mod layout;
 
-// Numbers as bytes, read and written.
-pub mod bytes;
-
 // Checks 4 and 5, and the kind of record by its mark.
 mod checks;
 
@@ -20,6 +17,7 @@ pub mod run;
 pub use checks::check;
 pub use checks::check_for;
 pub use checks::form_of;
+pub use checks::get16;
 pub use checks::mark_of;
 
 // The two kinds of a proposal.

@@ -1,6 +1,5 @@
-// The state of an office in a row of words that the caller lends. Contracts speak of the record State; no function
-// outside this crate names a place of the row. All of it is inner to the layer of the step, which hands on WORDS and
-// view_number.
+// The state of an office in a row of words that the caller lends, inner to the layer of the step, which hands on WORDS
+// and view_number. Contracts speak of the record State; no function outside this crate names a place of the row.
 
 // The places.
 mod layout;

@@ -2,8 +2,8 @@ use native.Mathlib.Numerals.{towards-suc}
 use lib.ListN.{length-set}
 use native.Mathlib.Omega.{arith}
 use borrow.Author.Needs.{needs}
-use Rattle.records.proofs.bytes.put32.Statement.{statement}
-use Rattle.records.proofs.bytes.put32.Tie as tie
+use Rattle.record_bytes.proofs.bytes.put32.Statement.{statement}
+use Rattle.record_bytes.proofs.bytes.put32.Tie as tie
 
 add-place : tie.Need-add-place
 add-place c = search needs

@@ -4,8 +4,8 @@ use native.Mathlib.Omega.{arith}
 use lib.ListN.{length, getD, length-set}
 use Rattle.laws.specs.Big.{big4}
 use Rattle.laws.proofs.Tab.{filled, fill-step}
-use Rattle.records.proofs.bytes.get_sixteen.Statement.{statement}
-use Rattle.records.proofs.bytes.get_sixteen.Tie as tie
+use Rattle.record_bytes.proofs.bytes.get_sixteen.Statement.{statement}
+use Rattle.record_bytes.proofs.bytes.get_sixteen.Tie as tie
 
 abbrev Inv-loop : tie.InvT-loop
 Inv-loop bytes at numbers₀ i₀ numbers i =

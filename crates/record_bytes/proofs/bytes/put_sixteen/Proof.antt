@@ -6,8 +6,8 @@ use lib.ListN.{length, getD, take}
 use lib.Seq.{sets, take-all}
 use Rattle.laws.specs.Big.{bytes4, bytesAll}
 use Rattle.laws.proofs.Big.{put-turn}
-use Rattle.records.proofs.bytes.put_sixteen.Statement.{statement}
-use Rattle.records.proofs.bytes.put_sixteen.Tie as tie
+use Rattle.record_bytes.proofs.bytes.put_sixteen.Statement.{statement}
+use Rattle.record_bytes.proofs.bytes.put_sixteen.Tie as tie
 
 abbrev Inv-loop : tie.InvT-loop
 Inv-loop out₀ at offset place a i₀ out i = (i ≤ 16) × (length out ≡ length out₀)

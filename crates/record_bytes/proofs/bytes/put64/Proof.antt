@@ -2,8 +2,8 @@ use Prim.Native.Nat.{_+_, _/_, _%_, _^_}
 use Rattle.laws.specs.Big.{bytes4}
 use Rattle.laws.proofs.Big.{Wrote, wrote-then}
 use borrow.Author.Needs.{needs}
-use Rattle.records.proofs.bytes.put64.Statement.{statement}
-use Rattle.records.proofs.bytes.put64.Tie as tie
+use Rattle.record_bytes.proofs.bytes.put64.Statement.{statement}
+use Rattle.record_bytes.proofs.bytes.put64.Tie as tie
 
 cast-put32 : tie.Need-cast-put32
 cast-put32 c = search needs

@@ -1,4 +1,4 @@
-// Numbers as bytes, most significant byte first; inner to the layer of records: records and record_bytes.
+// Numbers as bytes, most significant byte first; inner to this crate.
 ghost use mathlib.Core.Path.{_≡_};
 ghost use mathlib.Core.List.{[], _∷_};
 ghost use Prim.Native.Nat.{_+_, _-_, _*_, _<_, _≤_};
@@ -6,12 +6,6 @@ ghost use lib.ListN.{length, getD};
 ghost use lib.Seq.{sets};
 ghost use Rattle.laws.specs.Big.{big4, big8, bytes4, bytes8, bytesAll};
 ghost use Rattle.laws.specs.Tab.{tab};
-
-fn wide16(x: u8) -> u16
-    ensures { λ r. ⌜ (r ≡ x) × (r < 256) ⌝ }
-{
-    x as u16
-}
 
 fn wide32(x: u8) -> u32
     ensures { λ r. ⌜ (r ≡ x) × (r < 256) ⌝ }
@@ -23,13 +17,6 @@ fn wide64(x: u32) -> u64
     ensures { λ r. ⌜ (r ≡ x) × (r < 4294967296) ⌝ }
 {
     x as u64
-}
-
-// Two bytes as one number: a mark's value.
-pub fn get16(a: u8, b: u8) -> u16
-    ensures { λ r. ⌜ r ≡ a * 256 + b ⌝ }
-{
-    wide16(a) * 256 + wide16(b)
 }
 
 pub fn get32(bytes: &[u8], at: usize) -> u32

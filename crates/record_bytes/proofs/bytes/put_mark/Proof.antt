@@ -2,8 +2,8 @@ use native.Mathlib.Numerals.{towards-suc}
 use lib.ListN.{length-set}
 use native.Mathlib.Omega.{arith}
 use borrow.Author.Needs.{needs}
-use Rattle.records.proofs.bytes.put_mark.Statement.{statement}
-use Rattle.records.proofs.bytes.put_mark.Tie as tie
+use Rattle.record_bytes.proofs.bytes.put_mark.Statement.{statement}
+use Rattle.record_bytes.proofs.bytes.put_mark.Tie as tie
 
 element-copy-out-out : tie.Need-element-copy-out-out
 element-copy-out-out c = search needs
