@@ -21,9 +21,10 @@ use Rattle.records.specs.Fits.{FitsReport, FitsView}
 use Rattle.records.specs.declared.Report.{Report}
 use Rattle.records.specs.declared.Proposal.{Proposal}
 use Rattle.rules.specs.State.{Mode, None, Fast, Slow, Slot, State, keeping, storedAt}
-use Rattle.rules.specs.Rules.{Written, Outcome, nothingWritten, andThen, inSlot, netAfter, withNet, seated, opened, noticeOf, opens}
-use Rattle.rules.specs.Rules.{nextNumber, ownProposal, proposed, hasRecipient, proposesFast, received, beginsIn, slowNumber, proposesSlow, agreed, startOf, viewOf, concluded}
-use Rattle.rules.specs.Rules.{reportRule, proposalRule}
+use Rattle.rules.specs.Rules.{Written, Outcome, nothingWritten, andThen, inSlot, netAfter, withNet, seated, opened}
+use Rattle.rules.specs.Rules.{noticeOf, opens, nextNumber, ownProposal, proposed, hasRecipient, proposesFast, received}
+use Rattle.rules.specs.Rules.{beginsIn, slowNumber, proposesSlow, agreed, startOf, viewOf, concluded, reportRule}
+use Rattle.rules.specs.Rules.{proposalRule}
 use Rattle.rules.specs.Refusals.{Event, aReport, aProposal, wellFormed, refusalOf, ruleOf}
 use Rattle.rule_laws.proofs.Parts.{Reads, proposed-reads, received-reads, concluded-reads, made-is}
 use Rattle.rule_laws.proofs.Tests.{agreed-out}
@@ -138,7 +139,8 @@ module _ (seat : ℕ) (lt : seat < seatCount) where
         told = accepts m
             (notice-heard d sound (noticeOf (opened s)) (record { start = omega arith; members = b .fits })
             (record { within = low; member = rw (b .is-seat) m; above = rises .0; reaches = rises .1 })) at-end;
-        holds = opens-at (afterRecord d (aNotice (noticeOf (opened s)))) (b .is-seat) (omega arith) (b .view) (λ y. (refl, refl));
+        holds = opens-at (afterRecord d (aNotice (noticeOf (opened s)))) (b .is-seat) (omega arith) (b .view)
+            (λ y. (refl, refl));
       }
 
   -- a proposal made: the own one has the start number, and the seat hears nothing
@@ -268,7 +270,13 @@ module _ (seat : ℕ) (lt : seat < seatCount) where
         then = afterRecord d (aView (viewOf s));
         told = accepts m (view-heard d sound (viewOf s) fits takes) at-end;
         holds = settled (afterRecord d (aView (viewOf s)))
-            (record { is-seat = b .is-seat; office = b .office; fits = b .fits; start = b .start; view = omega arith });
+            (record {
+              is-seat = b .is-seat;
+              office = b .office;
+              fits = b .fits;
+              start = b .start;
+              view = omega arith;
+            });
       }
 
     concluded-follows : wellFormed (concluded s) ≡ true → Follow d (concludes s)

@@ -41,7 +41,8 @@ module _ (seat : ℕ) (lt : seat < seatCount) where
   sets-fit (aProposal p) h = tt
 
   -- what an answer sends, accepted or not
-  next-heard : (d : Desk) (s : State) (h : Input) → OfSeats (h .event) → Follows seat lt d s → Beside-it d (answerTo s h .written) (nextState s h)
+  next-heard : (d : Desk) (s : State) (h : Input) → OfSeats (h .event) → Follows seat lt d s
+      → Beside-it d (answerTo s h .written) (nextState s h)
   unfolding answerTo
   next-heard d s h y f = go (take-cases s (h .event) (h .room))
     where

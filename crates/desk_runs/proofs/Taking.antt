@@ -15,7 +15,8 @@ module _ (seat : ℕ) where
   -- the seat d hears what is for it of the records, each is accepted, and it is e then
   pub data Hears : Desk → List Written → Desk → Type 0 where
     at-end : {d : Desk} → Hears d [] d
-    passes : {d e : Desk} {w : Written} {ws : List Written} → forSeat seat w ≡ false → Hears d ws e → Hears d (w ∷ ws) e
+    passes : {d e : Desk} {w : Written} {ws : List Written} → forSeat seat w ≡ false → Hears d ws e
+        → Hears d (w ∷ ws) e
     accepts : {d e f : Desk} {w : Written} {ws : List Written} → forSeat seat w ≡ true
         → hearOf d (bytesOf w) ≡ record { refusal = 0; desk = e } → Hears e ws f → Hears d (w ∷ ws) f
 
@@ -24,7 +25,8 @@ module _ (seat : ℕ) where
   hears-then (passes n h) q = passes n (hears-then h q)
   hears-then (accepts y e h) q = accepts y e (hears-then h q)
 
-  pub all-accepted : {d e : Desk} {ws : List Written} → Hears d ws e → Every (λ h. h .refusal ≡ 0) (hearings d (sentTo seat ws))
+  pub all-accepted : {d e : Desk} {ws : List Written} → Hears d ws e
+      → Every (λ h. h .refusal ≡ 0) (hearings d (sentTo seat ws))
   unfolding hearings sentTo
   all-accepted at-end = none
   all-accepted (passes n h) = rw n (all-accepted h)

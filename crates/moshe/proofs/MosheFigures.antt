@@ -22,13 +22,17 @@ use Rattle.seats.proofs.OfficeLaws.{seat-serves, serves-seat}
 use Rattle.records.specs.declared.Report.{Report}
 use Rattle.records.specs.declared.Proposal.{Proposal}
 use Rattle.rules.specs.State.{Mode, None, Fast, Slow, Slot, State, keeping, fast, slow, zeros, storedAt, acceptedAt}
-use Rattle.rules.specs.Rules.{notice, proposal, Outcome, nothingWritten, andThen, fresh, netAfter, withNet, repeats, seated, opened, noticeOf, opens, nextNumber, ownProposal, proposed, receives, proposesFast, received, inSlot}
-use Rattle.rules.specs.Rules.{slowCalled, beginsIn, proposesSlow, slowTest, isNone, agreesKind, agreesIn, agreed, startOf, viewOf, concluded, agreementTest, tests, changeRule, reportRule, proposalRule}
-use Rattle.moshe.specs.Moshe.{Leaves, Server, toClients, toServers, Handled, nothingSent, thenRun, local, initially, propsOf, usedPropsOf, updateNSView, anyLocal, startFA, sendStartChange, proposalFA, others, sendProposal, storeProp, useProps, sendView}
-use Rattle.moshe.specs.Moshe.{deliverView, matchesNSView, onProposal, startsFA, onNE, reachedFA, neverSA, noSA}
+use Rattle.rules.specs.Rules.{notice, proposal, Outcome, nothingWritten, andThen, fresh, netAfter, withNet, repeats}
+use Rattle.rules.specs.Rules.{seated, opened, noticeOf, opens, nextNumber, ownProposal, proposed, receives}
+use Rattle.rules.specs.Rules.{proposesFast, received, inSlot}
+use Rattle.rules.specs.Rules.{slowCalled, beginsIn, proposesSlow, slowTest, isNone, agreesKind, agreesIn, agreed}
+use Rattle.rules.specs.Rules.{startOf, viewOf, concluded, agreementTest, tests, changeRule, reportRule, proposalRule}
+use Rattle.moshe.specs.Moshe.{Leaves, Server, toClients, toServers, Handled, nothingSent, thenRun, local}
+use Rattle.moshe.specs.Moshe.{initially, propsOf, usedPropsOf, updateNSView, anyLocal, startFA, sendStartChange}
+use Rattle.moshe.specs.Moshe.{proposalFA, others, sendProposal, storeProp, useProps, sendView, deliverView}
+use Rattle.moshe.specs.Moshe.{matchesNSView, onProposal, startsFA, onNE, reachedFA, neverSA, noSA}
 use Rattle.moshe.specs.Moshe.{fastOnProposal, fastOnNE, serverOf, stateFrom, addressed, handledOf, needed}
-use Rattle.moshe.specs.Moshe.{slowProposal, reached, onProposal01, onNE01}
-use Rattle.moshe.specs.Moshe.{IsFast, Known, OwnFast, OthersKnown}
+use Rattle.moshe.specs.Moshe.{slowProposal, reached, onProposal01, onNE01, IsFast, Known, OwnFast, OthersKnown}
 use Rattle.rule_laws.proofs.Parts.{proposed-reads, received-reads}
 use Rattle.rule_laws.proofs.Repeats.{repeat-rule, change-rule}
 use Rattle.rule_laws.proofs.Tests.{not-called, agreed-out}

@@ -19,9 +19,9 @@ use Rattle.rules.specs.Refusals.{Event, aReport, aProposal, eventOf, refusalOf,
 use Rattle.rule_laws.proofs.Tests.{next-above, slow-above}
 use Rattle.rule_laws.proofs.Walk.{arrived, concludes, Walk, walk-event}
 use Rattle.rule_laws.proofs.Steps.{check-facts, Refused, Accepts, step-cases, step-accepts}
-use Rattle.rules.specs.Rules.{Written, notice, proposal, view, Outcome, nothingWritten, andThen, withNet, opened, opens}
-use Rattle.rules.specs.Rules.{nextNumber, ownProposal, proposed, hasRecipient, proposesFast, received, proposesSlow}
-use Rattle.rules.specs.Rules.{agreed, concluded}
+use Rattle.rules.specs.Rules.{Written, notice, proposal, view, Outcome, nothingWritten, andThen, withNet, opened}
+use Rattle.rules.specs.Rules.{opens, nextNumber, ownProposal, proposed, hasRecipient, proposesFast, received}
+use Rattle.rules.specs.Rules.{proposesSlow, agreed, concluded}
 
 -- the number of a new proposal is above the stored numbers of the net view's offices
 pub next-above-stored : (s : State) (o : ℕ) → o < 16 → serves (s .net .bits) o ≡ true

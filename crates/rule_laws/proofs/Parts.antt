@@ -6,7 +6,8 @@ use Rattle.laws.specs.Upd.{ifb, upd}
 use Rattle.seats.specs.Offices.{serves}
 use Rattle.records.specs.declared.Proposal.{Proposal}
 use Rattle.records.specs.declared.View.{View}
-use Rattle.rules.specs.State.{Mode, None, Slot, State, kindOf, nothing, keeping, storedAt, acceptedAt, usedAt, usedFor, numberIn}
+use Rattle.rules.specs.State.{Mode, None, Slot, State, kindOf, nothing, keeping, storedAt, acceptedAt, usedAt, usedFor}
+use Rattle.rules.specs.State.{numberIn}
 use Rattle.rules.specs.Rules.{fresh, withNet, opened, ownProposal, proposed, received, concluded, viewOf}
 
 -- the parts of a state, those of an office o for every o below 16
@@ -39,7 +40,9 @@ fresh-reads own = record {
 }
 
 module _ (s : State) where
-  pub withNet-reads : (x : ℕ) → Reads (withNet s x) (s .own) (s .mode) x (storedAt s) (acceptedAt s) (s .view) (s .start) (s .number) (usedAt s)
+  pub withNet-reads : (x : ℕ)
+      → Reads (withNet s x) (s .own) (s .mode) x (storedAt s) (acceptedAt s) (s .view) (s .start) (s .number)
+      (usedAt s)
   unfolding withNet
   withNet-reads x = record {
     own-is = refl;

@@ -21,9 +21,9 @@ use Rattle.records.specs.declared.Proposal.{Proposal}
 use Rattle.rules.specs.State.{Slot, State, fast, slow, storedAt, acceptedAt, usedAt, usedFor}
 use Rattle.rules.specs.Rules.{Outcome, fresh}
 use Rattle.rule_laws.proofs.Parts.{fresh-reads}
-use Rattle.rules.specs.Refusals.{fullRoom, slotWithin, wellFormed, unreadable, Event, eventOf, wrongSender}
-use Rattle.rules.specs.Refusals.{wrongKind, wrongNumber, withoutSeat, strayUsed, notAbove, usedAhead, proposalChecks, refusalOf, ruleOf, Result}
-use Rattle.rules.specs.Refusals.{refused, accepted, accepting, actOf, takeOf, stepOf}
+use Rattle.rules.specs.Refusals.{fullRoom, slotWithin, wellFormed, unreadable, Event, eventOf, wrongSender, wrongKind}
+use Rattle.rules.specs.Refusals.{wrongNumber, withoutSeat, strayUsed, notAbove, usedAhead, proposalChecks, refusalOf}
+use Rattle.rules.specs.Refusals.{ruleOf, Result, refused, accepted, accepting, actOf, takeOf, stepOf}
 
 -- what a stored proposal that passes check 2 satisfies
 pub record SlotWithin (v : Slot) : Type 0 where
@@ -73,8 +73,10 @@ pub facts-well : (s : State) → WellFormed s → wellFormed s ≡ true
 unfolding wellFormed
 facts-well s h =
     let own : s .own ≤ 15 = omega arith in
-    simp as-facts
-    (((((((own, h .view), h .start), h .number), h .starts), h .accepted), h .used), λ o l. facts-slot (storedAt s o) (h .stored o l))
+    simp as-facts (
+      ((((((own, h .view), h .start), h .number), h .starts), h .accepted), h .used),
+      λ o l. facts-slot (storedAt s o) (h .stored o l),
+    )
 
 -- a fresh state passes check 2
 pub fresh-well : (own : ℕ) → own < 16 → wellFormed (fresh own) ≡ true

@@ -17,14 +17,15 @@ use Rattle.records.specs.declared.Proposal.{Proposal}
 use Rattle.records.specs.declared.View.{View}
 use Rattle.rules.specs.State.{Mode, None, Fast, Slow, State, keeping, usedFor}
 use Rattle.rules.specs.Rules.{Written, notice, proposal, view, Outcome, andThen, opened, noticeOf, opens, nextNumber}
-use Rattle.rules.specs.Rules.{ownProposal}
-use Rattle.rules.specs.Rules.{proposed, hasRecipient, proposesFast, slowNumber, proposesSlow, agreed, startOf, viewOf, concluded}
+use Rattle.rules.specs.Rules.{ownProposal, proposed, hasRecipient, proposesFast, slowNumber, proposesSlow, agreed}
+use Rattle.rules.specs.Rules.{startOf, viewOf, concluded}
 use Rattle.records.specs.Numbers.{limit}
 use Rattle.rules.specs.Refusals.{Event, eventOf, ruleOf, stepOf}
 use Rattle.rule_laws.proofs.Tests.{agreed-out, next-above, slow-above}
 use Rattle.rule_laws.proofs.Steps.{SlotWithin, Refused, Accepts, well-facts, step-cases, step-accepts}
 use Rattle.rule_laws.proofs.Walk.{concludes, Walk, walk-event}
-use Rattle.rule_laws.proofs.Ceiling.{Copied, MadeWithin, Copies, copying, copies-then, made-within, view-starts, arrived-copied, well-copied, accepted-fits}
+use Rattle.rule_laws.proofs.Ceiling.{Copied, MadeWithin, Copies, copying, copies-then, made-within, view-starts}
+use Rattle.rule_laws.proofs.Ceiling.{arrived-copied, well-copied, accepted-fits}
 
 -- the fast proposal, written or not
 pub fast-every : (R : Written → Type 0) (s : State) → R (proposal (ownProposal Fast (nextNumber s) s))
@@ -46,7 +47,8 @@ unfolding andThen
 every-then s o f a b = every-append a b
 
 -- what holds of no records and of those of each event holds of those of a step
-of-step : (S : List Written → Type 0) → S [] → ((s : State) (e : Event) → S (ruleOf s e .written)) → (s : State) (b : List ℕ) (room : ℕ)
+of-step : (S : List Written → Type 0) → S [] → ((s : State) (e : Event) → S (ruleOf s e .written))
+    → (s : State) (b : List ℕ) (room : ℕ)
     → S (stepOf s b room .written)
 of-step S z h s b room = go (step-cases s b room)
   where
@@ -214,5 +216,6 @@ records-within s b room = go (step-cases s b room)
         let e = eventOf b in
         let f = well-facts _ (a .acts .within) in
         rw (step-accepts s b room a)
-        (walk-event writing-within s e .within (arrived-copied s e (accepted-fits s e (a .acts .passes)) (well-copied s (a .well)))
+        (walk-event writing-within s e .within
+        (arrived-copied s e (accepted-fits s e (a .acts .passes)) (well-copied s (a .well)))
         (record { start = f .start; number = f .number; view = f .view }))

@@ -11,18 +11,18 @@ use Rattle.laws.specs.Bit.{bit}
 use Rattle.seats.specs.Seats.{has, unionOf, withoutOf}
 use Rattle.seats.specs.Offices.{serves}
 use Rattle.records.specs.Layout.{encodeReport, decodeReport, encodeProposal, decodeProposal, encodeNotice, encodeView}
-use Rattle.records.specs.Layout.{markOf, formFor, formOf}
-use Rattle.records.specs.Layout.{checkFor, checkOf}
+use Rattle.records.specs.Layout.{markOf, formFor, formOf, checkFor, checkOf}
 use Rattle.rules.specs.State.{None, Fast, State, fast, slow}
-use Rattle.rules.specs.Rules.{Written, notice, proposal, view, andThen, fresh, netAfter, withNet, repeats, seated, opened, noticeOf, opens, nextNumber}
-use Rattle.rules.specs.Rules.{ownProposal, proposed, receives, proposesFast, received, matching, matchingSlow, aboveOwn, usesOwn, slowCalled}
-use Rattle.rules.specs.Rules.{joinedNumber, slowNumber, proposesSlow, slowTest, agreesKind, isNone, agreed, startOf, viewOf, concluded}
-use Rattle.rules.specs.Rules.{agreementTest, tests, changeRule, reportRule, proposalRule}
+use Rattle.rules.specs.Rules.{Written, notice, proposal, view, andThen, fresh, netAfter, withNet, repeats}
+use Rattle.rules.specs.Rules.{seated, opened, noticeOf, opens, nextNumber, ownProposal, proposed, receives}
+use Rattle.rules.specs.Rules.{proposesFast, received, matching, matchingSlow, aboveOwn, usesOwn, slowCalled}
+use Rattle.rules.specs.Rules.{joinedNumber, slowNumber, proposesSlow, slowTest, agreesKind, isNone, agreed}
+use Rattle.rules.specs.Rules.{startOf, viewOf, concluded, agreementTest, tests, changeRule, reportRule}
+use Rattle.rules.specs.Rules.{proposalRule}
 use Rattle.records.specs.Numbers.{limit}
 use Rattle.rules.specs.Refusals.{Result, slotWithin, wellFormed, unreadable, eventOf, wrongSender, wrongKind}
-use Rattle.rules.specs.Refusals.{wrongNumber, withoutSeat}
-use Rattle.rules.specs.Refusals.{strayUsed, notAbove, usedAhead, proposalChecks, accepting, actOf, takeOf}
-use Rattle.rules.specs.Refusals.{fullRoom, stepOf, allBytes}
+use Rattle.rules.specs.Refusals.{wrongNumber, withoutSeat, strayUsed, notAbove, usedAhead, proposalChecks}
+use Rattle.rules.specs.Refusals.{accepting, actOf, takeOf, fullRoom, stepOf, allBytes}
 
 -- what is seen of a day: the refusal or 0, the bytes written, the records they are, the current view number
 pub record Day : Type 0 where
@@ -59,10 +59,14 @@ two a b = a ∷ b ∷ tab 14 (λ o. 0)
 
 -- a record handed in, with the least output; to unfold it is to unfold the rules
 unfoldable pub given : State → List ℕ → Result
-unfolding upd allb anyb largest tab bytesAll bit has unionOf withoutOf serves encodeReport decodeReport encodeProposal decodeProposal
-    encodeNotice encodeView markOf formFor formOf checkFor checkOf andThen fresh netAfter withNet repeats seated opened noticeOf opens nextNumber
-    ownProposal proposed receives proposesFast received matching matchingSlow aboveOwn usesOwn slowCalled joinedNumber slowNumber proposesSlow
-    slowTest agreesKind isNone agreed startOf viewOf concluded agreementTest tests changeRule reportRule proposalRule slotWithin wellFormed unreadable
+unfolding upd allb anyb largest tab bytesAll bit has unionOf withoutOf serves encodeReport decodeReport encodeProposal
+    decodeProposal encodeNotice encodeView markOf formFor formOf checkFor checkOf andThen fresh netAfter withNet
+    repeats seated opened
+    noticeOf opens nextNumber
+    ownProposal proposed receives proposesFast received matching matchingSlow aboveOwn usesOwn slowCalled joinedNumber
+    slowNumber proposesSlow
+    slowTest agreesKind isNone agreed startOf viewOf concluded agreementTest tests changeRule reportRule proposalRule
+    slotWithin wellFormed unreadable
     eventOf wrongSender wrongKind wrongNumber withoutSeat strayUsed notAbove usedAhead proposalChecks accepting actOf
     takeOf stepOf allBytes
 given s b = stepOf s b fullRoom

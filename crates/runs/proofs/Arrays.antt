@@ -17,7 +17,8 @@ use Rattle.records.specs.declared.View.{View}
 use Rattle.rules.specs.State.{Mode, None, Fast, Slow, Slot, fast, slow, kindOf, nothing, keeping, usedFor, numberIn}
 use Rattle.rules.specs.Rules.{netAfter}
 use Rattle.rules.specs.Refusals.{Result}
-use Rattle.runs.specs.World.{Item, SentView, World, WorldEvent, report, delivery, loss, without, reportAnswer, Gives}
+use Rattle.runs.specs.World.{Item, SentView, World, WorldEvent, report, delivery, loss, without, reportAnswer}
+use Rattle.runs.specs.World.{Gives}
 use Rattle.runs.specs.Begins.{InF, Rising}
 
 pub record Offices : Type 0 where
@@ -215,8 +216,9 @@ module _ (F : ℕ → Bool) where
   Apart w (delivery i j room) = InF F i → InF F j → w .link i j ≡ []
   Apart w (loss i j place) = InF F i → ⊥
 
-  -- An event, as the offices of F see it. Refused where it is one of F: a report does nothing, a delivery loses the front of the link;
-  -- between offices of F only the room or the ceiling refuses. A repeat does nothing; other reports give the office another net view.
+  -- An event, as the offices of F see it. Refused where it is one of F: a report does nothing, a delivery loses the
+  -- front of the link; between offices of F only the room or the ceiling refuses. A repeat does nothing; other reports
+  -- give the office another net view.
   pub data Happens (w : World) : WorldEvent → Offices → Offices → Type 0 where
     idles : {e : WorldEvent} {g : Offices} → Apart w e → Happens w e g g
     refuses : {g : Offices} {me room : ℕ} {r : Report} → InF F me → Barred (reportAnswer w me r room)
@@ -236,7 +238,8 @@ module _ (F : ℕ → Bool) where
     stores : {g : Offices} {i me room : ℕ} (p : Proposal) (l : List Item) → Arrives g me i p l
         → (p .members .bits ≡ g .net me → ⊥)
         → Happens w (delivery i me room) g (receive g me i p l)
-    answers : {g h : Offices} {i me room : ℕ} (p : Proposal) (l : List Item) → Arrives g me i p l → p .members .bits ≡ g .net me
+    answers : {g h : Offices} {i me room : ℕ} (p : Proposal) (l : List Item) → Arrives g me i p l
+        → p .members .bits ≡ g .net me
         → Tests (w .clock) me (receive g me i p l) h → Happens w (delivery i me room) g h
 
   -- What every part of an event keeps of the numbers, for offices i and j of F.
@@ -245,9 +248,11 @@ module _ (F : ℕ → Bool) where
     pub rows : (i j : ℕ) → FromF i j → Rising 0 (g .num i) (g .link i j)
     pub rising : (i j : ℕ) → InF F i → InF F j → (i ≡ j → ⊥) → Rising (g .acc j i) (g .num i) (g .link i j)
     -- nobody is told of a number of its own that it has not reached
-    pub told : (i j : ℕ) → InF F i → InF F j → (i ≡ j → ⊥) → Every (λ x. usedFor (x .proposal) j ≤ g .num j) (g .link i j)
+    pub told : (i j : ℕ) → InF F i → InF F j → (i ≡ j → ⊥)
+        → Every (λ x. usedFor (x .proposal) j ≤ g .num j) (g .link i j)
     -- what is stored has the number last accepted
-    pub kept : (i j : ℕ) → InF F i → InF F j → (i ≡ j → ⊥) → g .stored j i .present ≡ true → other g j i .number ≡ g .acc j i
+    pub kept : (i j : ℕ) → InF F i → InF F j → (i ≡ j → ⊥) → g .stored j i .present ≡ true
+        → other g j i .number ≡ g .acc j i
     pub kept-used : (i j : ℕ) → InF F i → InF F j → (i ≡ j → ⊥) → g .stored j i .present ≡ true
         → usedFor (other g j i) j ≤ g .num j
     pub used-acc : (i j : ℕ) → InF F i → InF F j → (i ≡ j → ⊥) → g .used j i ≤ g .acc j i

@@ -33,7 +33,8 @@ use Rattle.runs.proofs.StateArrays.{Sim, sim-receive}
 use Rattle.runs.proofs.RulesArrays.{Moved, moved-none, moving}
 use Rattle.runs.proofs.Proposals.{EachProposal, each-map, Begun, Makes, makes-proposal, other-members}
 use Rattle.runs.proofs.Accepting.{accepted-or-barred}
-use Rattle.runs.proofs.WorldArrays.{Good, Seen, SeenAll, GoodAnswer, Linked, seen-moved, seen-linked, below-sixteen}
+use Rattle.runs.proofs.WorldArrays.{Good, Seen, SeenAll, GoodAnswer, Linked, seen-moved, seen-linked}
+use Rattle.runs.proofs.WorldArrays.{below-sixteen}
 use Rattle.runs.proofs.Valid.{Valid, made-below, made-valid}
 
 module _ (F : ℕ → Bool) where
@@ -61,7 +62,8 @@ module _ (F : ℕ → Bool) where
     taken-from y f = record {
       kept = λ a n. record { num = refl; mode = refl; net = refl; stored = refl; acc = refl; used = refl };
       same-shown = refl;
-      links = λ a b c. upd2-agree (w .link) (g .link) i j l (without 0 (g .link i j)) a b (sym (ap (without 0) (sym (seen .links i j f) ∙ front))) (seen .links a b c);
+      links = λ a b c. upd2-agree (w .link) (g .link) i j l (without 0 (g .link i j)) a b
+          (sym (ap (without 0) (sym (seen .links i j f) ∙ front))) (seen .links a b c);
       part = λ P h. every-tail (rw front at h);
     }
 

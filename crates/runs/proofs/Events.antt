@@ -7,7 +7,8 @@ use Prim.Native.Nat.{ℕ, _<_}
 use Rattle.laws.proofs.Fin.{true-false}
 use Rattle.rules.specs.Refusals.{aReport, aProposal}
 use Rattle.records.specs.declared.Report.{Report}
-use Rattle.runs.specs.World.{Item, World, WorldEvent, report, delivery, loss, answered, withLink, idle, without, delivered, reportAnswer, proposalAnswer, next, Among}
+use Rattle.runs.specs.World.{Item, World, WorldEvent, report, delivery, loss, answered, withLink, idle, without}
+use Rattle.runs.specs.World.{delivered, reportAnswer, proposalAnswer, next, Among}
 use Rattle.runs.specs.Begins.{InF}
 use Rattle.runs.proofs.Arrays.{Offices, relink, FromF, Numbers, Happens, idles, loses, drops}
 use Rattle.runs.proofs.Links.{every-without}
@@ -42,7 +43,8 @@ module _ (F : ℕ → Bool) where
       lost f = record {
         kept = λ a n. record { num = refl; mode = refl; net = refl; stored = refl; acc = refl; used = refl };
         same-shown = refl;
-        links = λ c d p. upd2-agree (w .link) (g .link) i j rest (without place (g .link i j)) c d (ap (without place) (seen .links i j f)) (seen .links c d p);
+        links = λ c d p. upd2-agree (w .link) (g .link) i j rest (without place (g .link i j)) c d
+            (ap (without place) (seen .links i j f)) (seen .links c d p);
         part = λ P h. every-without place (w .link i j) h;
       }
 
@@ -77,11 +79,13 @@ module _ (F : ℕ → Bool) where
   -- a delivery to an office that is not of F
   delivery-outside : (w : World) (g : Offices) (i j room : ℕ) (x : Item) (l : List Item) → SeenAll F w g
       → (InF F j → ⊥) → w .link i j ≡ x ∷ l
-      → Among (delivery i j room) → Acted w g (delivery i j room) (answered (withLink w i j l) j (proposalAnswer w j (x .proposal) room))
+      → Among (delivery i j room)
+      → Acted w g (delivery i j room) (answered (withLink w i j l) j (proposalAnswer w j (x .proposal) room))
   unfolding proposalAnswer withLink
   delivery-outside w g i j room x l seen out front among = go (in-F? i (among .0))
     where
-      ends : (h : Offices) → Linked F w g h 16 i j l → SeenAll F (answered (withLink w i j l) j (proposalAnswer w j (x .proposal) room)) h
+      ends : (h : Offices) → Linked F w g h 16 i j l
+          → SeenAll F (answered (withLink w i j l) j (proposalAnswer w j (x .proposal) room)) h
       ends h k =
           let n = step-names (w .state j) (aProposal (x .proposal)) room in
           let own : w .state j .own ≡ j = seen .owns j (among .1) (below-sixteen F (among .1)) in
@@ -101,7 +105,8 @@ module _ (F : ℕ → Bool) where
       )
 
   -- every event
-  pub world-acts : (w : World) (g : Offices) (e : WorldEvent) → SeenAll F w g → Numbers F g → Among e → Acted w g e (next w e)
+  pub world-acts : (w : World) (g : Offices) (e : WorldEvent) → SeenAll F w g → Numbers F g → Among e
+      → Acted w g e (next w e)
   unfolding next
   world-acts w g (report o rep room) s c m = go (in-F? o (m .0))
     where
@@ -111,7 +116,8 @@ module _ (F : ℕ → Bool) where
   world-acts w g (loss i j place) s c m = loss-acts w g i j place s m
   world-acts w g (delivery i j room) s c m = go (w .link i j) refl (in-F? j (m .1))
     where
-      go : (l : List Item) → w .link i j ≡ l → InF F j ⊎ (InF F j → ⊥) → Acted w g (delivery i j room) (delivered w i j room l)
+      go : (l : List Item) → w .link i j ≡ l → InF F j ⊎ (InF F j → ⊥)
+          → Acted w g (delivery i j room) (delivered w i j room l)
       go [] e b = (g, idles {e = delivery i j room} (λ a c. e), seen-idle F w g s)
       go (x ∷ l) e (inl q) = delivery-acts F w g i j room x l s c q e m
       go (x ∷ l) e (inr n) = delivery-outside w g i j room x l s n e m

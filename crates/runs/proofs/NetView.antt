@@ -23,7 +23,8 @@ use Rattle.rules.specs.Refusals.{Event, aReport, aProposal, ruleOf, Result, tak
 use Rattle.rule_laws.proofs.Steps.{Refused, Takes, take-accepts, take-cases}
 use Rattle.rule_laws.proofs.Repeats.{net-repeat, repeat-rule}
 use Rattle.rule_laws.proofs.Parts.{fresh-reads}
-use Rattle.runs.specs.World.{Item, World, atFirst, WorldEvent, report, delivery, loss, answered, withLink, idle, delivered, reportAnswer, proposalAnswer, next, run, at, Nth, netOne, netBy, Among}
+use Rattle.runs.specs.World.{Item, World, atFirst, WorldEvent, report, delivery, loss, answered, withLink, idle}
+use Rattle.runs.specs.World.{delivered, reportAnswer, proposalAnswer, next, run, at, Nth, netOne, netBy, Among}
 use Rattle.runs.specs.Begins.{AllAmong}
 use Rattle.runs.proofs.Proposals.{report-net, proposal-net}
 
@@ -50,7 +51,8 @@ step-proposal-net s p room =
     ∙ if-same (eqb (takeOf s (aProposal p) room .refusal) 0) (s .net .bits)
 
 -- an event gives office i the net view that the statement counts
-net-one : (w : World) (e : WorldEvent) (i : ℕ) → Among e → next w e .state i .net .bits ≡ netOne w e i (w .state i .net .bits)
+net-one : (w : World) (e : WorldEvent) (i : ℕ) → Among e
+    → next w e .state i .net .bits ≡ netOne w e i (w .state i .net .bits)
 unfolding next answered reportAnswer
 net-one w (report o r room) i a = go (ℕ-discrete i o)
   where
@@ -82,7 +84,8 @@ net-run w (e ∷ es) i m =
     ∙ ap (netBy (next w e) es i) (net-one w e i (m 0 e (omega arith, refl)))
 
 -- what changes it is a report to the office
-pub changing-report : (w : World) (e : WorldEvent) (i x : ℕ) → (netOne w e i x ≡ x → ⊥) → (r : Report) × (room : ℕ) × (e ≡ report i r room)
+pub changing-report : (w : World) (e : WorldEvent) (i x : ℕ) → (netOne w e i x ≡ x → ⊥)
+    → (r : Report) × (room : ℕ) × (e ≡ report i r room)
 changing-report w (delivery a b room) i x n = absurd (n refl)
 changing-report w (loss a b place) i x n = absurd (n refl)
 changing-report w (report o r room) i x n = go (eqb o i) refl

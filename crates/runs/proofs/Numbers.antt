@@ -17,10 +17,12 @@ use Rattle.rules.specs.State.{Mode, Fast, Slow, Slot, nothing, keeping, usedFor
 use Rattle.runs.specs.World.{Item, World, WorldEvent, without}
 use Rattle.runs.specs.Begins.{InF, Rising}
 use Rattle.laws.proofs.Grid.{upd2-cases, upd2-same, upd2-other}
-use Rattle.runs.proofs.Arrays.{Offices, mailTo, renet, propose, receive, conclude, relink, other, Proposes, Agreed, Arrives, FromF, Numbers}
-use Rattle.runs.proofs.Arrays.{SlowTest, not-called, called, not-agreed, agreed, Tests, both}
-use Rattle.runs.proofs.Arrays.{Happens, idles, refuses, repeated, loses, drops, leaves, reports, stores, answers}
-use Rattle.runs.proofs.Links.{every-without, rising-le, rising-low, rising-high, rising-snoc, rising-tail, rising-head, rising-without}
+use Rattle.runs.proofs.Arrays.{Offices, mailTo, renet, propose, receive, conclude, relink, other, Proposes}
+use Rattle.runs.proofs.Arrays.{Agreed, Arrives, FromF, Numbers, SlowTest, not-called, called, not-agreed}
+use Rattle.runs.proofs.Arrays.{agreed, Tests, both, Happens, idles, refuses, repeated, loses, drops, leaves}
+use Rattle.runs.proofs.Arrays.{reports, stores, answers}
+use Rattle.runs.proofs.Links.{every-without, rising-le, rising-low, rising-high, rising-snoc, rising-tail}
+use Rattle.runs.proofs.Links.{rising-head, rising-without}
 
 -- what a proposal p puts on the link to office j: itself or nothing
 abbrev pub itemOf : ℕ → Proposal → Item
@@ -89,7 +91,8 @@ module _ (g : Offices) (me : ℕ) (m : Mode) (p : Proposal) (t : ℕ) where
 
   pub said-num : {kind : ℕ} → Proposes g me kind p → (a : ℕ) → g .num a ≤ propose g me m p t .num a
   unfolding propose
-  said-num makes a = let l = makes .above in propose-cases g me m p t (λ a n q r. g .num a ≤ n) (omega arith) (λ a n. omega arith) a
+  said-num makes a = let l = makes .above in
+      propose-cases g me m p t (λ a n q r. g .num a ≤ n) (omega arith) (λ a n. omega arith) a
 
 module _ (F : ℕ → Bool) where
   -- X holds of two offices i and j of F
@@ -122,7 +125,8 @@ module _ (F : ℕ → Bool) where
             relink-cases g i j (without n (g .link i j)) (λ a b l. OfTwo a b (Rising (g .acc b a) (g .num a) l))
             (λ oi oj ne. rising-without n (g .link i j) (h .rising i j oi oj ne)) (h .rising);
         told =
-            relink-cases g i j (without n (g .link i j)) (λ a b l. OfTwo a b (Every (λ x. usedFor (x .proposal) b ≤ g .num b) l))
+            relink-cases g i j (without n (g .link i j))
+            (λ a b l. OfTwo a b (Every (λ x. usedFor (x .proposal) b ≤ g .num b) l))
             (λ oi oj ne. every-without n (g .link i j) (h .told i j oi oj ne)) (h .told);
         kept = h .kept;
         kept-used = h .kept-used;
@@ -145,10 +149,12 @@ module _ (F : ℕ → Bool) where
                 (λ b a. h .rows a b) b a;
             rising =
                 λ a b. receive-cases g me i p l (λ b a s n k. OfTwo a b (Rising n (g .num a) k))
-                (λ oi om ne. let y = arrives .oldest oi in rw (y .2) at (rising-tail (rw (y .1) at (h .rising i me oi om ne))))
+                (λ oi om ne. let y = arrives .oldest oi in
+                rw (y .2) at (rising-tail (rw (y .1) at (h .rising i me oi om ne))))
                 (λ b a. h .rising a b) b a;
             told =
-                λ a b. receive-cases g me i p l (λ b a s n k. OfTwo a b (Every (λ x. usedFor (x .proposal) b ≤ g .num b) k))
+                λ a b. receive-cases g me i p l
+                (λ b a s n k. OfTwo a b (Every (λ x. usedFor (x .proposal) b ≤ g .num b) k))
                 (λ oi om ne. every-tail (rw (arrives .oldest oi .1) at (h .told i me oi om ne)))
                 (λ b a. h .told a b) b a;
             kept =
@@ -159,7 +165,8 @@ module _ (F : ℕ → Bool) where
             kept-used =
                 λ a b. receive-cases g me i p l
                 (λ b a s n k. OfTwo a b (s .present ≡ true → usedFor (s .proposal) b ≤ g .num b))
-                (λ oi om ne e. let y = arrives .oldest oi in rw (y .2) at (every-head (rw (y .1) at (h .told i me oi om ne))))
+                (λ oi om ne e. let y = arrives .oldest oi in
+                rw (y .2) at (every-head (rw (y .1) at (h .told i me oi om ne))))
                 (λ b a. h .kept-used a b) b a;
             used-acc =
                 λ a b. receive-cases g me i p l (λ b a s n k. OfTwo a b (g .used b a ≤ n))
@@ -197,8 +204,10 @@ module _ (F : ℕ → Bool) where
         rw (makes .with-used b (ob .0))
         (if-cases (λ x. x ≤ said .num b) (serves (g .net me) b) (g .used me b) 0 (λ e. omega arith) (λ e. omega arith))
 
-    said-told : (a b : ℕ) → InF F a → InF F b → (a ≡ b → ⊥) → Every (λ x. usedFor (x .proposal) b ≤ said .num b) (g .link a b)
-    said-told a b oa ob ne = let n = said-num g me m p t makes b in every-map (λ x u. omega arith) (h .told a b oa ob ne)
+    said-told : (a b : ℕ) → InF F a → InF F b → (a ≡ b → ⊥)
+        → Every (λ x. usedFor (x .proposal) b ≤ said .num b) (g .link a b)
+    said-told a b oa ob ne = let n = said-num g me m p t makes b in
+        every-map (λ x u. omega arith) (h .told a b oa ob ne)
 
     -- a row that rises goes on rising
     said-row : (lo b : ℕ) → Rising lo (g .num me) (g .link me b) → Rising lo (p .number) (g .link me b ++ mailTo t p b)
@@ -224,14 +233,17 @@ module _ (F : ℕ → Bool) where
     unfolding propose
     numbers-propose =
         record {
-          rows = λ a b. propose-cases g me m p t (λ a n q r. FromF F a b → Rising 0 n (r b)) (λ f. said-row 0 b (h .rows me b f)) (λ a n. h .rows a b) a;
+          rows = λ a b. propose-cases g me m p t (λ a n q r. FromF F a b → Rising 0 n (r b))
+              (λ f. said-row 0 b (h .rows me b f)) (λ a n. h .rows a b) a;
           rising =
               λ a b. propose-cases g me m p t (λ a n q r. OfTwo a b (Rising (g .acc b a) n (r b)))
               (λ om ob ne. said-row (g .acc b me) b (h .rising me b om ob ne)) (λ a n. h .rising a b) a;
           told =
-              λ a b. propose-cases g me m p t (λ a n q r. OfTwo a b (Every (λ x. usedFor (x .proposal) b ≤ said .num b) (r b)))
+              λ a b. propose-cases g me m p t
+              (λ a n q r. OfTwo a b (Every (λ x. usedFor (x .proposal) b ≤ said .num b) (r b)))
               (λ om ob ne. every-append (said-told me b om ob ne)
-              (mail-cases t p b (λ k. Every (λ x. usedFor (x .proposal) b ≤ said .num b) k) (more (said-used b ob ne) none) none))
+              (mail-cases t p b (λ k. Every (λ x. usedFor (x .proposal) b ≤ said .num b) k)
+              (more (said-used b ob ne) none) none))
               (λ a n. said-told a b) a;
           kept =
               λ a b oa ob ne. said-stored g me m p t (λ s. s .present ≡ true → s .proposal .number ≡ g .acc b a) b a
@@ -318,4 +330,5 @@ module _ (F : ℕ → Bool) where
   numbers-acts {w} {g = g} n (reports {me = me} x p o c k s) =
       numbers-tests o (numbers-propose (renet g me x) me Fast p (w .clock) (numbers-renet g me x n) o k) s
   numbers-acts {g = g} n (stores {i = i} {me = me} p l a b) = numbers-receive g me i p l n a
-  numbers-acts {g = g} n (answers {i = i} {me = me} p l a b s) = numbers-tests (a .at-office) (numbers-receive g me i p l n a) s
+  numbers-acts {g = g} n (answers {i = i} {me = me} p l a b s) =
+      numbers-tests (a .at-office) (numbers-receive g me i p l n a) s

@@ -16,15 +16,18 @@ use Rattle.records.specs.declared.Report.{Report}
 use Rattle.records.specs.declared.Proposal.{Proposal}
 use Rattle.records.specs.declared.View.{View}
 use Rattle.rules.specs.State.{Mode, None, Fast, Slow, Slot, State, storedAt, usedAt}
-use Rattle.rules.specs.Rules.{notice, proposal, view, Outcome, nothingWritten, andThen, fresh, netAfter, withNet, opened, noticeOf, opens, nextNumber, proposesFast, received, inSlot}
-use Rattle.rules.specs.Rules.{slowCalled, beginsIn, slowNumber, proposesSlow, slowTest, agreed, startOf, viewOf, concluded, reportRule, proposalRule}
+use Rattle.rules.specs.Rules.{notice, proposal, view, Outcome, nothingWritten, andThen, fresh, netAfter, withNet}
+use Rattle.rules.specs.Rules.{opened, noticeOf, opens, nextNumber, proposesFast, received, inSlot}
+use Rattle.rules.specs.Rules.{slowCalled, beginsIn, slowNumber, proposesSlow, slowTest, agreed, startOf, viewOf}
+use Rattle.rules.specs.Rules.{concluded, reportRule, proposalRule}
 use Rattle.rules.specs.Refusals.{Event, aReport, aProposal, refusalOf, ruleOf, Result, takeOf}
 use Rattle.rule_laws.proofs.Parts.{fresh-reads, concluded-reads}
 use Rattle.rule_laws.proofs.Tests.{next-above, slow-above, agreed-out}
 use Rattle.rule_laws.proofs.Steps.{check-facts, Refused, Takes, take-cases, take-accepts}
 use Rattle.rule_laws.proofs.Written.{NoView, fast-every}
 use Rattle.rule_laws.proofs.Walk.{slowRound, concludes, Tested, staged-report, staged-proposal}
-use Rattle.runs.specs.Office.{Input, answerTo, nextState, LogEntry, answerOf, logOf, Before, testedIn, testedAt, CountedAt}
+use Rattle.runs.specs.Office.{Input, answerTo, nextState, LogEntry, answerOf, logOf, Before, testedIn, testedAt}
+use Rattle.runs.specs.Office.{CountedAt}
 use Rattle.runs.proofs.OfficeRuns.{log-keeps, before-first, before-second}
 use Rattle.runs.proofs.OfficeNumbers.{lastOf, SlotAfter, same, empty, newer, Renews, renews-none, renews-then}
 use Rattle.runs.proofs.OfficeNumbers.{renews-net, renews-opened, renews-proposed, renews-received}
@@ -101,7 +104,8 @@ module _ (s u : State) (r : Renews s u) where
   called : (o : Outcome) → Has u o → slowCalled (o .state) ≡ true → Has x (andThen o slowRound)
   unfolding andThen
   called o h e = record {
-    is = ap (λ (y : State). slowRound y .state) (h .is) ∙ sym (ap (λ (q : Outcome). q .state) (slow-called u (rw (h .is) at e)));
+    is = ap (λ (y : State). slowRound y .state) (h .is)
+        ∙ sym (ap (λ (q : Outcome). q .state) (slow-called u (rw (h .is) at e)));
     no-view = every-append (h .no-view) (slow-no-view (o .state));
   }
 
@@ -112,17 +116,26 @@ module _ (s u : State) (r : Renews s u) where
     shows = λ v m. go v (List·Memᴰ·append-cases (o .written) m);
   }
     where
-      go : (v : View) → List·Memᴰ (view v) (o .written) ⊎ List·Memᴰ (view v) (view (viewOf (o .state)) ∷ []) → ViewSent s x v (concluded (o .state))
+      go : (v : View) → List·Memᴰ (view v) (o .written) ⊎ List·Memᴰ (view v) (view (viewOf (o .state)) ∷ [])
+          → ViewSent s x v (concluded (o .state))
       go v (inl m) = absurd (every-at (o .written) (h .no-view) m)
       go v (inr m) =
           let q = List·Memᴰ·eq-of-singleton m in
           let i : v ≡ viewOf (o .state) = cc in
-          record { renews = x-renews; agrees = rw (h .is) at e; is = i ∙ ap viewOf (h .is); state = ap concluded (h .is) }
+          record {
+            renews = x-renews;
+            agrees = rw (h .is) at e;
+            is = i ∙ ap viewOf (h .is);
+            state = ap concluded (h .is);
+          }
 
   stages : Tested (Has u) (Has x) (EventDone s x)
   stages = record {
     called = called;
-    uncalled = λ o h e. record { is = h .is ∙ sym (ap (λ (q : Outcome). q .state) (slow-uncalled u (rw (h .is) at e))); no-view = h .no-view };
+    uncalled = λ o h e. record {
+      is = h .is ∙ sym (ap (λ (q : Outcome). q .state) (slow-uncalled u (rw (h .is) at e)));
+      no-view = h .no-view;
+    };
     agrees = concluding;
     unagreed = λ o h e. no-view-ends s x o (rw (h .is) x-renews) (h .no-view);
   }
@@ -130,10 +143,12 @@ module _ (s u : State) (r : Renews s u) where
 -- every accepted event, as its first stage leaves it
 report-ends : (s : State) (r : Report) → EventDone s (testedIn s (aReport r)) (reportRule s r)
 unfolding testedIn
-report-ends s r = staged-report (stages s u (renews-then net (renews-then (renews-opened t) (fast-renews (opened t))))) s r
+report-ends s r = staged-report (stages s u (renews-then net (renews-then (renews-opened t) (fast-renews (opened t)))))
+    s r
     (λ e. no-view-ends s _ (nothingWritten s) (renews-none s) none)
     (λ e. no-view-ends s _ (nothingWritten t) net none)
-    (λ e. unfold andThen opens in record { is = refl; no-view = every-append (opens-no-view t) (fast-every NoView (opened t) tt) })
+    (λ e. unfold andThen opens in
+    record { is = refl; no-view = every-append (opens-no-view t) (fast-every NoView (opened t) tt) })
   where
     t : State
     t = withNet s (netAfter (s .net .bits) r)
@@ -144,7 +159,8 @@ report-ends s r = staged-report (stages s u (renews-then net (renews-then (renew
     u : State
     u = proposesFast (opened t) .state
 
-proposal-ends : (s : State) (p : Proposal) → refusalOf s (aProposal p) ≡ 0 → EventDone s (testedIn s (aProposal p)) (proposalRule s p)
+proposal-ends : (s : State) (p : Proposal) → refusalOf s (aProposal p) ≡ 0
+    → EventDone s (testedIn s (aProposal p)) (proposalRule s p)
 unfolding testedIn
 proposal-ends s p z = staged-proposal (stages s (received s p) arrives) s p
     (λ e. no-view-ends s _ (nothingWritten (received s p)) arrives none) (λ e. record { is = refl; no-view = none })
@@ -163,9 +179,11 @@ unfolding answerTo
 answer-ends s h = go (take-cases s (h .event) (h .room))
   where
     Ends : Result → Type 0
-    Ends r = Renews s (r .state) × ((v : View) → List·Memᴰ (view v) (r .written) → ViewSent s (testedIn s (h .event)) v (r .state))
+    Ends r = Renews s (r .state)
+        × ((v : View) → List·Memᴰ (view v) (r .written) → ViewSent s (testedIn s (h .event)) v (r .state))
 
-    go : Refused s (takeOf s (h .event) (h .room)) ⊎ Takes s (h .event) (h .room) → Ends (takeOf s (h .event) (h .room))
+    go : Refused s (takeOf s (h .event) (h .room)) ⊎ Takes s (h .event) (h .room)
+        → Ends (takeOf s (h .event) (h .room))
     go (inl r) = rw (r .is) (renews-none s, λ v m. absurd (List·Memᴰ·not-nil m))
     go (inr a) = let x = event-ends s (h .event) (a .acts .passes) in
         rw (take-accepts s (h .event) (h .room) a) (x .renews, x .shows)

@@ -10,7 +10,8 @@ use Rattle.laws.specs.Lists.{runs}
 use Rattle.laws.proofs.Lists.{runs-append}
 use Rattle.laws.proofs.Loops.{same-entry}
 use Rattle.rules.specs.State.{State}
-use Rattle.runs.specs.World.{Item, World, atFirst, WorldEvent, report, delivery, loss, answered, withLink, idle, delivered, next, run, at, Nth}
+use Rattle.runs.specs.World.{Item, World, atFirst, WorldEvent, report, delivery, loss, answered, withLink, idle}
+use Rattle.runs.specs.World.{delivered, next, run, at, Nth}
 
 -- the event at a place
 pub nth : (es : List WorldEvent) (n : ℕ) → n < length es → (e : WorldEvent) × Nth es n e

@@ -28,7 +28,8 @@ use Rattle.runs.proofs.RulesArrays.{Moved, moved-none, moving, fast-mov
 use Rattle.runs.proofs.Proposals.{EachProposal, each-map, Begun, Makes, makes-report, unseated-report}
 use Rattle.runs.proofs.Accepting.{accepted-or-barred}
 use Rattle.runs.proofs.Valid.{Valid, made-below, made-valid}
-use Rattle.runs.proofs.WorldArrays.{Good, Seen, SeenAll, GoodAnswer, SameOwn, seen-but, seen-moved, seen-turned, below-sixteen}
+use Rattle.runs.proofs.WorldArrays.{Good, Seen, SeenAll, GoodAnswer, SameOwn, seen-but, seen-moved, seen-turned}
+use Rattle.runs.proofs.WorldArrays.{below-sixteen}
 
 module _ (F : ℕ → Bool) where
   -- a report at an office of F

@@ -12,13 +12,18 @@ use Rattle.laws.proofs.Upd.{upd-same, upd-other}
 use Rattle.seats.specs.Offices.{serves}
 use Rattle.records.specs.declared.Proposal.{Proposal}
 use Rattle.rules.specs.State.{Mode, None, Fast, Slow, Slot, State, fast, slow, kindOf, usedFor}
-use Rattle.rules.specs.Rules.{Written, notice, proposal, view, Outcome, nothingWritten, andThen, receives, hasRecipient, ownProposal, proposed, opens, inSlot, startOf, viewOf, concluded, slowCalled, slowNumber, nextNumber, beginsIn, proposesSlow, proposesFast}
+use Rattle.rules.specs.Rules.{Written, notice, proposal, view, Outcome, nothingWritten, andThen, receives}
+use Rattle.rules.specs.Rules.{hasRecipient, ownProposal, proposed, opens, inSlot, startOf, viewOf, concluded}
+use Rattle.rules.specs.Rules.{slowCalled, slowNumber, nextNumber, beginsIn, proposesSlow, proposesFast}
 use Rattle.rule_laws.proofs.Parts.{made-is, made-used}
-use Rattle.rule_laws.proofs.Tests.{Matching, Above, Cause, in-none, heard-slow, is-used, above-own, NotCalled, NumberFrom, joins, starts, Agreeing, AllAgree, called-out, not-called, slow-number, slow-above, next-above, agreed-out, agreed-in}
+use Rattle.rule_laws.proofs.Tests.{Matching, Above, Cause, in-none, heard-slow, is-used, above-own, NotCalled}
+use Rattle.rule_laws.proofs.Tests.{NumberFrom, joins, starts, Agreeing, AllAgree, called-out, not-called, slow-number}
+use Rattle.rule_laws.proofs.Tests.{slow-above, next-above, agreed-out, agreed-in}
 use Rattle.rule_laws.proofs.Walk.{slowRound, concludes, Tested}
 use Rattle.runs.specs.World.{Item, SentRecord, SentView, mail, logged, viewsIn}
 use Rattle.runs.proofs.Arrays as off
-use Rattle.runs.proofs.Arrays.{Offices, mailTo, propose, conclude, viewWith, Match, other, Proposes, Calls, Silent, Joinable, Chosen, Agrees, Agreed, SlowTest, AgreementTest, Tests}
+use Rattle.runs.proofs.Arrays.{Offices, mailTo, propose, conclude, viewWith, Match, other, Proposes, Calls}
+use Rattle.runs.proofs.Arrays.{Silent, Joinable, Chosen, Agrees, Agreed, SlowTest, AgreementTest, Tests}
 use Rattle.runs.proofs.StateArrays.{Sim, sim-open, sim-propose, sim-conclude}
 
 -- the view of a set depends on the start numbers of the set's offices alone
@@ -83,7 +88,16 @@ pub record Same (g h : Offices) (i : ℕ) : Type 0 where
   pub shown : h .shown i ≡ g .shown i
 
 pub same-refl : (g : Offices) (i : ℕ) → Same g g i
-same-refl g i = record { num = refl; mode = refl; net = refl; stored = refl; acc = refl; used = refl; link = refl; shown = refl }
+same-refl g i = record {
+  num = refl;
+  mode = refl;
+  net = refl;
+  stored = refl;
+  acc = refl;
+  used = refl;
+  link = refl;
+  shown = refl;
+}
 
 same-trans : {g h k : Offices} {i : ℕ} → Same g h i → Same h k i → Same g k i
 same-trans a b = record {
@@ -148,7 +162,8 @@ moved-then t me g h k o f a b = record {
   mailed = λ j lt. b .mailed j lt ∙ ap (λ (l : List Item). l ++ mail t j (f (o .state) .written)) (a .mailed j lt)
       ∙ append-assoc (g .link me j) (mail t j (o .written)) (mail t j (f (o .state) .written))
       ∙ ap (λ (l : List Item). g .link me j ++ l) (sym (mail-append t j (o .written) (f (o .state) .written)));
-  showed = b .showed ∙ ap (shows t (f (o .state) .written)) (a .showed) ∙ sym (shows-append t (o .written) (f (o .state) .written) (g .shown me));
+  showed = b .showed ∙ ap (shows t (f (o .state) .written)) (a .showed)
+      ∙ sym (shows-append t (o .written) (f (o .state) .written) (g .shown me));
   elsewhere = λ i n. same-trans (a .elsewhere i n) (b .elsewhere i n);
 }
 
@@ -282,7 +297,8 @@ module _ (t me : ℕ) (s : State) (g : Offices) (h : Sim s g me) where
   unfolding propose
   moved-propose m n ws e v = record {
     sim = sim-propose s g me h m n t;
-    mailed = λ j lt. ap (λ f. f j) (upd-same (g .link) me _) ∙ ap (λ (l : List Item). g .link me j ++ l) (sym (e j lt));
+    mailed = λ j lt. ap (λ f. f j) (upd-same (g .link) me _)
+        ∙ ap (λ (l : List Item). g .link me j ++ l) (sym (e j lt));
     showed = sym v;
     elsewhere = same-propose g me m (ownProposal m n s) t;
   }
@@ -320,8 +336,12 @@ module _ (t me : ℕ) where
   proposes-slow : (s : State) (g : Offices) → Sim s g me
       → (k : Offices) × (k ≡ propose g me Slow (ownProposal Slow (slowNumber s) s) t) × Moved t me g (proposesSlow s) k
   unfolding proposesSlow
-  proposes-slow s g h =
-      (propose g me Slow (ownProposal Slow (slowNumber s) s) t, refl, moved-propose t me s g h Slow (slowNumber s) _ (λ j lt. mail-one t j _) refl)
+  proposes-slow s g h = (
+    propose g me Slow (ownProposal Slow (slowNumber s) s) t,
+    refl,
+    moved-propose t me s g h Slow (slowNumber s) _
+        (λ j lt. mail-one t j _) refl,
+  )
 
   slow-called : (s u : State) (g : Offices) → Sim s g me → Sim u g me → slowCalled s ≡ true
       → SlowTest t me g (propose g me Slow (ownProposal Slow (slowNumber u) u) t)
@@ -379,7 +399,8 @@ module _ (t me : ℕ) where
   fast-shows p vs = if-cases (λ (ws : List Written). shows t ws vs ≡ vs) (hasRecipient p) _ _ (λ e. refl) (λ e. refl)
 
   -- step 3 and a fast proposal
-  pub fast-moves : (s : State) (g : Offices) → Sim s g me → let u = opens s .state in let p = ownProposal Fast (nextNumber u) u in
+  pub fast-moves : (s : State) (g : Offices) → Sim s g me → let u = opens s .state in
+      let p = ownProposal Fast (nextNumber u) u in
       Proposes g me fast p × Moved t me g (andThen (opens s) proposesFast) (propose g me Fast p t)
   unfolding proposesFast
   fast-moves s g h =

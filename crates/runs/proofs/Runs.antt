@@ -18,7 +18,8 @@ use Rattle.runs.proofs.Events.{world-acts}
 use Rattle.runs.proofs.Places.{at-next, along}
 use Rattle.runs.proofs.Start.{atStart, start-numbers, start-seen}
 
-module _ (F : ℕ → Bool) (states : ℕ → State) (links : ℕ → ℕ → List Item) (es : List WorldEvent) (begins : Begins F states links)
+module _ (F : ℕ → Bool) (states : ℕ → State) (links : ℕ → ℕ → List Item) (es : List WorldEvent)
+    (begins : Begins F states links)
     (among : AllAmong es) where
   -- the world before event n
   abbrev pub world : ℕ → World
@@ -32,8 +33,12 @@ module _ (F : ℕ → Bool) (states : ℕ → State) (links : ℕ → ℕ → Li
   pub event-acts : (n : ℕ) (e : WorldEvent) → Nth es n e → (g : Offices) → SeenAll F (world n) g → Numbers F g
       → (h : Offices) × Happens F (world n) e g h × SeenAll F (world (n + 1)) h × Numbers F h
   event-acts n e k g s c =
-      let a = world-acts F (world n) g e s c (among n e k) in
-      (a .0, a .1, subst (λ (w : World). SeenAll F w (a .0)) (sym (at-next (atFirst states links) es n e k)) (a .2), numbers-acts F c (a .1))
+      let a = world-acts F (world n) g e s c (among n e k) in (
+        a .0,
+        a .1,
+        subst (λ (w : World). SeenAll F w (a .0)) (sym (at-next (atFirst states links) es n e k)) (a .2),
+        numbers-acts F c (a .1),
+      )
 
   -- what the events keep of the arrays, from one place to a later one
   module _ (I : ℕ → Offices → Type 0)

@@ -177,7 +177,8 @@ module _ (F : ℕ → Bool) where
           (mail-all (λ p. p .sender ≡ me) (w .clock) j (o .written) (each-map (λ p e f. e) (a .names)));
       below = λ i b p h. upd-cases (λ (i : ℕ) (l : List SentRecord). InF F i → List·Memᴰ (Entry p (h .0)) l
           → usedFor p i < p .number)
-          (w .log) me _ i (λ b h. ⊎-elim (λ e. e) (λ e. s .below me b p (_, e)) (in-log (w .clock) (o .written) (w .log me) (a .below) h)) (λ n b h. s .below i b p (_, h))
+          (w .log) me _ i (λ b h. ⊎-elim (λ e. e) (λ e. s .below me b p (_, e))
+          (in-log (w .clock) (o .written) (w .log me) (a .below) h)) (λ n b h. s .below i b p (_, h))
           b (h .1);
     }
 
@@ -250,12 +251,14 @@ module _ (F : ℕ → Bool) where
         (λ b. every-append (s .named o j b c)
         (mail-all (λ p. p .sender ≡ o) (w .clock) j (r .written) (each-map (λ p e f. e) e)))
         (λ m b. s .named i j b c) b;
-    below = λ i b p h. upd-cases (λ (i : ℕ) (l : List SentRecord). InF F i → List·Memᴰ (Entry p (h .0)) l → usedFor p i < p .number)
+    below = λ i b p h. upd-cases (λ (i : ℕ) (l : List SentRecord). InF F i → List·Memᴰ (Entry p (h .0)) l
+        → usedFor p i < p .number)
         (w .log) o _ i (λ b. absurd (out b)) (λ n b h. s .below i b p (_, h)) b (h .1);
   }
 
   -- the arrays change for office x alone, and not its links and its views
-  pub seen-turned : (w : World) (g h : Offices) (x : ℕ) → SeenAll w g → ((a : ℕ) → (a ≡ x → ⊥) → SameOwn g h a) → h .link ≡ g .link → h .shown ≡ g .shown
+  pub seen-turned : (w : World) (g h : Offices) (x : ℕ) → SeenAll w g → ((a : ℕ) → (a ≡ x → ⊥) → SameOwn g h a)
+      → h .link ≡ g .link → h .shown ≡ g .shown
       → Seen x w h
   seen-turned w g h x s k l v = record {
     sim = λ a b n. sim-kept (w .state a) g h a (k a n) (s .sim a b (below-sixteen (b .0)));

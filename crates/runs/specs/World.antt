@@ -42,8 +42,9 @@ pub record World : Type 0 where
 unfoldable pub atFirst : (ℕ → State) → (ℕ → ℕ → List Item) → World
 atFirst states links = record { state = states; link = links; clock = 0; log = λ i. [] }
 
--- Report: one office is handed any joining and any leaving set. Delivery: the oldest proposal on a link is taken off and handed
--- to the office at its end. Loss: any one proposal on a link is taken off. `room` is the length of the lent output.
+-- Report: one office is handed any joining and any leaving set. Delivery: the oldest proposal on a link is taken off
+-- and handed to the office at its end. Loss: any one proposal on a link is taken off. `room` is the length of the lent
+-- output.
 pub data WorldEvent : Type 0 where
   report : (office : ℕ) (r : Report) (room : ℕ) → WorldEvent
   delivery : (from to room : ℕ) → WorldEvent

@@ -19,10 +19,12 @@ use Rattle.rules.specs.State.{Mode, None, Fast, Slow, Slot, slow, kindOf, nothi
 use Rattle.runs.specs.World.{Item, without}
 use Rattle.laws.proofs.Grid.{upd2-same, upd2-other}
 use Rattle.runs.proofs.Links.{snoc-not-nil, snoc-tail}
-use Rattle.runs.proofs.Arrays.{Offices, mailTo, renet, propose, receive, conclude, relink, Match, other, Proposes, Silent, Chosen, joins, starts, Agreed}
+use Rattle.runs.proofs.Arrays.{Offices, mailTo, renet, propose, receive, conclude, relink, Match, other, Proposes}
+use Rattle.runs.proofs.Arrays.{Silent, Chosen, joins, starts, Agreed}
 use Rattle.runs.proofs.Arrays.{SlowTest, not-called, called, not-agreed, agreed, Tests, both, Arrives}
 use Rattle.settling.specs.Statement.{OfA}
-use Rattle.settling.proofs.Invariants.{Done, NoLast, Reported, Losing, HappensFairly, fair-idle, fair-loss, fair-leave, fair-report, fair-store, fair-answer}
+use Rattle.settling.proofs.Invariants.{Done, NoLast, Reported, Losing, HappensFairly, fair-idle, fair-loss}
+use Rattle.settling.proofs.Invariants.{fair-leave, fair-report, fair-store, fair-answer}
 use Rattle.settling.proofs.Invariants.{Place, on-its-way, is-stored, counted, Core, AfterTests, Inv}
 use Rattle.settling.proofs.LastProposal.{later}
 use Rattle.settling.proofs.Core.{core-later, core-receive, core-report, core-acts}
@@ -496,7 +498,8 @@ module _ (A : ℕ) (last : ℕ → ℕ) where
   -- every event keeps the invariant
   pub inv-acts : {t n : ℕ} {g h : Offices} → Inv A last t g → HappensFairly A last t n g h → Inv A last (t + 1) h
   inv-acts v (fair-idle n) = inv-later n v
-  inv-acts {t} {g = g} v (fair-loss i j place n s) = loses-inv A last (t + 1) g i j place (inv-later n v) (core-acts A last (v .core) (fair-loss i j place n s)) s
+  inv-acts {t} {g = g} v (fair-loss i j place n s) =
+      loses-inv A last (t + 1) g i j place (inv-later n v) (core-acts A last (v .core) (fair-loss i j place n s)) s
   inv-acts {t} {g = g} v (fair-leave me x n a e) =
       let m : last me ≡ t → ⊥ = n me a in
       leaves-inv A last (t + 1) g me x (inv-later n v) (core-acts A last (v .core) (fair-leave me x n a e))

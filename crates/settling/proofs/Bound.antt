@@ -25,9 +25,11 @@ use Rattle.runs.proofs.Arrays.{Offices, mailTo, propose, receive, conclude, rel
 use Rattle.runs.proofs.Arrays.{SlowTest, not-called, called, AgreementTest, not-agreed, agreed, both}
 use Rattle.runs.proofs.Links.{every-without}
 use Rattle.settling.specs.Statement.{between, onWay, OfA}
-use Rattle.settling.proofs.Invariants.{Losing, Inv, HappensFairly, fair-idle, fair-loss, fair-leave, fair-report, fair-store, fair-answer}
-use Rattle.settling.proofs.Count.{total, total-link, total-else, total-grow, total-mono, total-length, over, over-one, over-bound}
-use Rattle.settling.proofs.Count.{isOld, older, older-length, older-snoc, older-without, length-without, upTo, upTo-length, upTo-entered}
+use Rattle.settling.proofs.Invariants.{Losing, Inv, HappensFairly, fair-idle, fair-loss, fair-leave}
+use Rattle.settling.proofs.Invariants.{fair-report, fair-store, fair-answer}
+use Rattle.settling.proofs.Count.{total, total-link, total-else, total-grow, total-mono, total-length, over}
+use Rattle.settling.proofs.Count.{over-one, over-bound, isOld, older, older-length, older-snoc, older-without}
+use Rattle.settling.proofs.Count.{length-without, upTo, upTo-length, upTo-entered}
 use Rattle.settling.proofs.Joined.{Matched, joined}
 
 -- the rounds r become r', so that n is one of them; a new one costs one of c

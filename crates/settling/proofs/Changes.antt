@@ -26,11 +26,13 @@ module _ (A : ℕ) (states : ℕ → State) (links : ℕ → ℕ → List Item) 
   pub changes-at : (n i : ℕ) → n < length es → (net i (n + 1) ≡ net i n → ⊥) → Changes A states links es n i
   changes-at n i lt d =
       let e = nth es n lt in
-      let r = changing-report (at (first A states links es) es n) (e .0) i (net i n) (λ z. d (net-next (first A states links es) es n (e .0) i 0 (e .1) ∙ z)) in
+      let r = changing-report (at (first A states links es) es n) (e .0) i (net i n)
+      (λ z. d (net-next (first A states links es) es n (e .0) i 0 (e .1) ∙ z)) in
       ((r .0, r .1, subst (Nth es n) (r .2) (e .1)), d)
 
   -- from its last report on, the net view stays
-  pub stays-after : (n i : ℕ) → LastChange A states links es i n → (k : ℕ) → n < k → k < length es → net i (k + 1) ≡ net i k
+  pub stays-after : (n i : ℕ) → LastChange A states links es i n → (k : ℕ) → n < k → k < length es
+      → net i (k + 1) ≡ net i k
   stays-after n i h k l lt = go (ℕ-discrete (net i (k + 1)) (net i k))
     where
       go : Dec (net i (k + 1) ≡ net i k) → net i (k + 1) ≡ net i k
@@ -43,7 +45,8 @@ module _ (A : ℕ) (states : ℕ → State) (links : ℕ → ℕ → List Item) 
       (take-all (length es) es (omega arith))
 
   -- the hypothesis that there is a last report costs nothing
-  pub a-change : (i : ℕ) → OfA A i → netBy (first A states links es) es i 0 ≡ A → (n : ℕ) × LastChange A states links es i n
+  pub a-change : (i : ℕ) → OfA A i → netBy (first A states links es) es i 0 ≡ A
+      → (n : ℕ) × LastChange A states links es i n
   a-change i q e =
       let c = last-change (net i) (length es) (λ z. some-seat (sym (net-at-end i ∙ e) ∙ z)) in
       (c .0, (changes-at (c .0) i (c .1) (c .2), λ m l x. x .1 (c .3 m l (x .0 .2 .0))))

@@ -12,9 +12,12 @@ use Rattle.runs.proofs.Arrays.{Offices, Arrives, Proposes, renet, propose, rece
 use Rattle.runs.proofs.Arrays.{SlowTest, not-called, called, not-agreed, agreed, Tests, both}
 use Rattle.runs.proofs.Numbers.{numbers-renet, numbers-relink, numbers-receive, numbers-propose, numbers-conclude}
 use Rattle.settling.specs.Statement.{OfA}
-use Rattle.settling.proofs.Invariants.{NoLast, Core, Proposing, Reported, Concluding, Losing, HappensFairly, fair-idle, fair-loss, fair-leave, fair-report, fair-store, fair-answer}
-use Rattle.settling.proofs.LastProposal.{book-later, renet-book, relink-book, receive-book, propose-book, conclude-book}
-use Rattle.settling.proofs.Rounds.{rounds-later, renet-rounds, relink-rounds, receive-rounds, propose-rounds, conclude-rounds}
+use Rattle.settling.proofs.Invariants.{NoLast, Core, Proposing, Reported, Concluding, Losing, HappensFairly}
+use Rattle.settling.proofs.Invariants.{fair-idle, fair-loss, fair-leave, fair-report, fair-store, fair-answer}
+use Rattle.settling.proofs.LastProposal.{book-later, renet-book, relink-book, receive-book, propose-book}
+use Rattle.settling.proofs.LastProposal.{conclude-book}
+use Rattle.settling.proofs.Rounds.{rounds-later, renet-rounds, relink-rounds, receive-rounds, propose-rounds}
+use Rattle.settling.proofs.Rounds.{conclude-rounds}
 
 module _ (A : ℕ) (last : ℕ → ℕ) where
   pub core-later : {t : ℕ} {g : Offices} → NoLast A last t → Core A last t g → Core A last (t + 1) g
@@ -105,7 +108,8 @@ module _ (A : ℕ) (last : ℕ → ℕ) where
   pub core-tests : {t me : ℕ} {g h : Offices} → Core A last (t + 1) g → OfA A me → Tests t me g h
       → Core A last (t + 1) h
   core-tests c o (both s (not-agreed n)) = core-slow-test c o s
-  core-tests {t} c o (both s (agreed a)) = core-conclude t (core-slow-test c o s) (record { at-office = o; all-agree = a })
+  core-tests {t} c o (both s (agreed a)) =
+      core-conclude t (core-slow-test c o s) (record { at-office = o; all-agree = a })
 
   pub core-acts : {t n : ℕ} {g h : Offices} → Core A last t g → HappensFairly A last t n g h → Core A last (t + 1) h
   core-acts c (fair-idle n) = core-later n c

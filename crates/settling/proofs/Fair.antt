@@ -23,7 +23,8 @@ use Rattle.runs.proofs.Arrays.{SlowTest, not-called, called, not-agreed, agreed
 use Rattle.runs.proofs.Arrays.{Happens, idles, refuses, repeated, loses, drops, leaves, reports, stores, answers}
 use Rattle.runs.proofs.WorldArrays.{SeenAll, below-sixteen}
 use Rattle.settling.specs.Statement.{between, deliveryOne, OfA}
-use Rattle.settling.proofs.Invariants.{NoLast, NoLastBut, HappensFairly, fair-idle, fair-loss, fair-leave, fair-report, fair-store, fair-answer}
+use Rattle.settling.proofs.Invariants.{NoLast, NoLastBut, HappensFairly, fair-idle, fair-loss, fair-leave}
+use Rattle.settling.proofs.Invariants.{fair-report, fair-store, fair-answer}
 
 -- the tests leave the net view
 slow-net : {t me : ℕ} {g h : Offices} → SlowTest t me g h → h .net ≡ g .net
@@ -80,7 +81,8 @@ module _ (A : ℕ) (last : ℕ → ℕ) where
     pub keeps : (i j place : ℕ) (x : Item) → OfA A i → OfA A j → e ≡ loss i j place → place < length (w .link i j)
         → getD (w .link i j) place x ≡ x → x .sent < last i
     pub not-after : (i : ℕ) → OfA A i → Renewed w e i → w .clock ≤ last i
-    pub is-last : (i : ℕ) → OfA A i → last i ≡ w .clock → (r : Report) × (room : ℕ) × (e ≡ report i r room) × Renewed w e i
+    pub is-last : (i : ℕ) → OfA A i → last i ≡ w .clock → (r : Report) × (room : ℕ) × (e ≡ report i r room)
+        × Renewed w e i
     pub final : (i : ℕ) → OfA A i → last i ≡ w .clock → next w e .state i .net .bits ≡ A
 
   not-barred : {w : World} {e : WorldEvent} {i : ℕ} {r : Result} → Fair w e → OfA A i → Gives w e i r → Barred r → ⊥
@@ -110,7 +112,8 @@ module _ (A : ℕ) (last : ℕ → ℕ) where
         never e = let z : _≡_ {A = ℕ} 0 1 = cc in omega arith
 
     -- of a report, where it is no last one of me either
-    none-due : (me : ℕ) (rep : Report) (room : ℕ) → Fair w (report me rep room) → (OfA A me → last me ≡ w .clock → ⊥) → NoLast A last (w .clock)
+    none-due : (me : ℕ) (rep : Report) (room : ℕ) → Fair w (report me rep room) → (OfA A me → last me ≡ w .clock → ⊥)
+        → NoLast A last (w .clock)
     none-due me rep room f n i q e = go (ℕ-discrete i me)
       where
         go : Dec (i ≡ me) → ⊥
@@ -139,10 +142,12 @@ module _ (A : ℕ) (last : ℕ → ℕ) where
     untouched : (e : WorldEvent) → Among e → Fair w e → Apart (serves A) w e
         → HappensFairly A last (w .clock) (deliveryOne A w e) g g
     untouched (report o r room) m f a = fair-idle (none-due w o r room f (λ q. absurd (a q)))
-    untouched (delivery i j room) m f a = rw (counted-out A w i j room a (m .0) (m .1)) (fair-idle (due-at-delivery w i j room f))
+    untouched (delivery i j room) m f a =
+        rw (counted-out A w i j room a (m .0) (m .1)) (fair-idle (due-at-delivery w i j room f))
     untouched (loss i j place) m f a = fair-idle (due-at-loss w i j place f)
 
-    arrival : (i me room : ℕ) (p : Proposal) (l : List Item) → Arrives (serves A) g me i p l → deliveryOne A w (delivery i me room) ≡ ifb (serves A i) 1 0
+    arrival : (i me room : ℕ) (p : Proposal) (l : List Item) → Arrives (serves A) g me i p l
+        → deliveryOne A w (delivery i me room) ≡ ifb (serves A i) 1 0
     arrival i me room p l a =
         counted-in A w i me room (a .at-office) (a .others)
         (λ e. let o = a .oldest (a .from-office, e) in
@@ -167,7 +172,8 @@ module _ (A : ℕ) (last : ℕ → ℕ) where
         })
     fair-acts m f (drops {i = i} {j = j} {room = room} k b) v =
         let out : OfA A j → ⊥ = λ oj. let r = b oj in not-barred f oj (r .1) (r .2) in
-        rw (counted-out A w i j room (λ a c. absurd (out c)) (m .0) (m .1)) (fair-loss i j 0 (due-at-delivery w i j room f)
+        rw (counted-out A w i j room (λ a c. absurd (out c)) (m .0) (m .1))
+        (fair-loss i j 0 (due-at-delivery w i j room f)
         (record { from-office = k .0; to-office = k .1; others = k .2; early = λ oj. absurd (out oj) }))
     fair-acts {h = h} m f (leaves {me = me} {room = room} {r = r} x o c b) v =
         fair-leave me x (none-due w me r room f not-last) o

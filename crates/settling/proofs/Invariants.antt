@@ -12,7 +12,8 @@ use Rattle.seats.specs.Offices.{serves}
 use Rattle.records.specs.declared.Proposal.{Proposal}
 use Rattle.rules.specs.State.{Mode, None, Fast, fast, slow, kindOf, keeping, usedFor}
 use Rattle.runs.specs.World.{Item, SentView, without}
-use Rattle.runs.proofs.Arrays.{Offices, renet, propose, receive, relink, viewWith, Match, Proposes, Silent, Agreed, Tests, Arrives, Numbers}
+use Rattle.runs.proofs.Arrays.{Offices, renet, propose, receive, relink, viewWith, Match, Proposes, Silent, Agreed}
+use Rattle.runs.proofs.Arrays.{Tests, Arrives, Numbers}
 use Rattle.settling.specs.Statement.{OfA}
 
 -- what the two tests leave behind at office i
@@ -64,9 +65,11 @@ module _ (A : ℕ) (last : ℕ → ℕ) where
   -- event t where the hypotheses hold, as the offices of A see it; n: the deliveries between them that it makes
   pub data HappensFairly (t : ℕ) : ℕ → Offices → Offices → Type 0 where
     fair-idle : {g : Offices} → NoLast t → HappensFairly t 0 g g
-    fair-loss : {g : Offices} (i j place : ℕ) → NoLast t → Losing g i j place t → HappensFairly t 0 g (relink g i j (without place (g .link i j)))
+    fair-loss : {g : Offices} (i j place : ℕ) → NoLast t → Losing g i j place t
+        → HappensFairly t 0 g (relink g i j (without place (g .link i j)))
     fair-leave : {g : Offices} (me x : ℕ) → NoLast t → OfA A me → t ≤ last me → HappensFairly t 0 g (renet g me x)
-    fair-report : {g h : Offices} (me x : ℕ) (p : Proposal) → Reported g me x t p → Tests t me (propose (renet g me x) me Fast p t) h → HappensFairly t 0 g h
+    fair-report : {g h : Offices} (me x : ℕ) (p : Proposal) → Reported g me x t p
+        → Tests t me (propose (renet g me x) me Fast p t) h → HappensFairly t 0 g h
     fair-store : {g : Offices} (me i : ℕ) (p : Proposal) (l : List Item) → NoLast t → Arrives (serves A) g me i p l
         → (p .members .bits ≡ g .net me → ⊥) → HappensFairly t (ifb (serves A i) 1 0) g (receive g me i p l)
     fair-answer : {g h : Offices} (me i : ℕ) (p : Proposal) (l : List Item) → NoLast t → Arrives (serves A) g me i p l

@@ -17,9 +17,11 @@ use Rattle.runs.specs.World.{Item, without}
 use Rattle.runs.proofs.Arrays.{Offices, mailTo, renet, propose, receive, conclude, relink, Arrives}
 use Rattle.runs.proofs.Links.{snoc-tail, without-snoc}
 use Rattle.runs.proofs.Proposals.{kinds}
-use Rattle.runs.proofs.Numbers.{itemOf, relink-cases, receive-cases, propose-cases, conclude-cases, said-stored, said-num, said-used}
+use Rattle.runs.proofs.Numbers.{itemOf, relink-cases, receive-cases, propose-cases, conclude-cases, said-stored}
+use Rattle.runs.proofs.Numbers.{said-num, said-used}
 use Rattle.settling.specs.Statement.{OfA}
-use Rattle.settling.proofs.Invariants.{Done, NoLast, Proposing, Concluding, Losing, Place, on-its-way, is-stored, counted, Book, Core}
+use Rattle.settling.proofs.Invariants.{Done, NoLast, Proposing, Concluding, Losing, Place, on-its-way}
+use Rattle.settling.proofs.Invariants.{is-stored, counted, Book, Core}
 
 module _ (A : ℕ) (last : ℕ → ℕ) where
   -- X holds of two offices i and j of A, where the last report of i has come before event t
@@ -178,7 +180,8 @@ module _ (A : ℕ) (last : ℕ → ℕ) where
           made-used =
               λ a b f. said-done (λ a n q r. OfA A b → (a ≡ b → ⊥) → usedFor q b ≤ said .num b)
               (λ e. said-used (serves A) g me m p t (h .numbers) (makes .at-office) (makes .makes) b)
-              (λ a f ob ne. let u = h .book .made-used a b f ob ne in let s = said-num g me m p t (makes .makes) b in omega arith)
+              (λ a f ob ne. let u = h .book .made-used a b f ob ne in let s = said-num g me m p t (makes .makes) b in
+              omega arith)
               a f;
         }
 

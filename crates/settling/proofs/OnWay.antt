@@ -13,7 +13,8 @@ use Rattle.runs.specs.World.{Item, without}
 use Rattle.laws.proofs.Grid.{upd2-cases}
 use Rattle.runs.proofs.Arrays.{Offices, receive, relink}
 use Rattle.settling.specs.Statement.{between, onWay, OfA}
-use Rattle.settling.proofs.Invariants.{Inv, HappensFairly, fair-idle, fair-loss, fair-leave, fair-report, fair-store, fair-answer}
+use Rattle.settling.proofs.Invariants.{Inv, HappensFairly, fair-idle, fair-loss, fair-leave, fair-report}
+use Rattle.settling.proofs.Invariants.{fair-store, fair-answer}
 
 two-of-A : (A i j : ℕ) → OfA A i → OfA A j → (i ≡ j → ⊥) → between A i j ≡ true
 two-of-A A i j a b n = rw (a .1, b .1, ne-eqb i j n)
@@ -60,10 +61,12 @@ module _ (A : ℕ) (last : ℕ → ℕ) (t : ℕ) (all-done : (i : ℕ) → OfA 
       → Empty A (h .link)
   quiet-acts v e (fair-idle _) = e
   quiet-acts {g = g} v e (fair-loss a b place _ l) = λ i j p q m.
-      unfold relink in upd2-cases (λ (i j : ℕ) (k : List Item). OfA A i → OfA A j → (i ≡ j → ⊥) → k ≡ []) (g .link) a b _ i j
+      unfold relink in upd2-cases (λ (i j : ℕ) (k : List Item). OfA A i → OfA A j → (i ≡ j → ⊥) → k ≡ [])
+      (g .link) a b _ i j
       (λ p q m. ap (without place) (e a b p q m)) (λ o p q m. e i j p q m) p q m
   quiet-acts v e (fair-leave me x _ q f) = let l = all-done me q in absurd (omega arith)
-  quiet-acts v e (fair-report me x p r k) = let l = all-done me (r .at-office) in let o = r .open-yet in absurd (omega arith)
+  quiet-acts v e (fair-report me x p r k) = let l = all-done me (r .at-office) in let o = r .open-yet in
+      absurd (omega arith)
   quiet-acts {g = g} v e (fair-store me i p l _ r k) = λ a b c q m.
       unfold receive in
       upd2-cases (λ (a b : ℕ) (k : List Item). OfA A a → OfA A b → (a ≡ b → ⊥) → k ≡ []) (g .link) i me l a b

@@ -16,12 +16,14 @@ use Rattle.laws.specs.Upd.{ifb}
 use Rattle.seats.specs.Offices.{serves}
 use Rattle.rules.specs.Rules.{fresh}
 use Rattle.rules.specs.Refusals.{Result, wellFormed}
-use Rattle.runs.specs.World.{netOne, netBy, Item, World, WorldEvent, report, delivery, loss, next, at, Nth, Gives, to-report, to-proposal, Among}
+use Rattle.runs.specs.World.{netOne, netBy, Item, World, WorldEvent, report, delivery, loss, next, at, Nth, Gives}
+use Rattle.runs.specs.World.{to-report, to-proposal, Among}
 use Rattle.settling.specs.Statement.{OfA, LastChange, Assumed, AllReported}
 use Rattle.settling.proofs.Changes.{changes-at}
-use Rattle.settling.specs.Scenarios.{Scenario, NotFresh, Posted, stateIn, linkIn, opening, everywhere, amongb, answersNot, olderAt, losesOld}
-use Rattle.settling.specs.Scenarios.{Followed, notYet, follow, followed, points, changeAt}
-use Rattle.settling.specs.Scenarios.{allFresh, noMail, passes, ofEach, Hypothesis, some-seat, holds, hypotheses, failing, fails, reportedLast}
+use Rattle.settling.specs.Scenarios.{Scenario, NotFresh, Posted, stateIn, linkIn, opening, everywhere, amongb}
+use Rattle.settling.specs.Scenarios.{answersNot, olderAt, losesOld, Followed, notYet, follow, followed, points}
+use Rattle.settling.specs.Scenarios.{changeAt, allFresh, noMail, passes, ofEach, Hypothesis, some-seat, holds}
+use Rattle.settling.specs.Scenarios.{hypotheses, failing, fails, reportedLast}
 
 not-or : (a b : Bool) → a ≡ true → not a || b ≡ true → b ≡ true
 not-or true b t e = e
@@ -142,7 +144,10 @@ last-found p i lt h = go (ended i (opening p) es 0 notYet)
     go (changed k l q m n) =
         let b = at-end in
         let e : k ≡ getD (points p) i 0 - 1 = omega arith in
-        subst Last e (changes-at (p .set) (stateIn (p .begun)) (linkIn (p .posted)) es k i l (rw add-one m), λ j a x. n j (x .0 .2 .0) a (rw add-one at (x .1)))
+        subst Last e (
+          changes-at (p .set) (stateIn (p .begun)) (linkIn (p .posted)) es k i l (rw add-one m),
+          λ j a x. n j (x .0 .2 .0) a (rw add-one at (x .1)),
+        )
 
 -- the offices and links at first
 module _ (x i : ℕ) (s : serves x i ≡ true) where

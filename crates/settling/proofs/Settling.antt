@@ -15,7 +15,8 @@ use Rattle.records.specs.declared.View.{View}
 use Rattle.rules.specs.State.{State}
 use Rattle.rules.specs.Refusals.{Result}
 use Rattle.rule_laws.proofs.Steps.{Passes}
-use Rattle.runs.specs.World.{Item, World, atFirst, WorldEvent, report, delivery, next, at, Nth, Gives, to-report, to-proposal}
+use Rattle.runs.specs.World.{Item, World, atFirst, WorldEvent, report, delivery, next, at, Nth, Gives, to-report}
+use Rattle.runs.specs.World.{to-proposal}
 use Rattle.runs.specs.Begins.{Begins}
 use Rattle.runs.proofs.Arrays.{Offices, Numbers, Happens, viewWith}
 use Rattle.runs.proofs.Accepting.{unheard}
@@ -23,7 +24,8 @@ use Rattle.runs.proofs.WorldArrays.{SeenAll, below-sixteen}
 use Rattle.runs.proofs.Start.{atStart, start-numbers}
 use Rattle.runs.proofs.Places.{nth-same, at-next, drop-next, clock-first, along}
 use Rattle.runs.proofs.Runs.{Shown, shown-along, shown-at}
-use Rattle.settling.specs.Statement.{onWay, deliveryOne, deliveries, OfA, netAt, Changes, Assumed, AllReported, Settled, Settles}
+use Rattle.settling.specs.Statement.{onWay, deliveryOne, deliveries, OfA, netAt, Changes, Assumed, AllReported}
+use Rattle.settling.specs.Statement.{Settled, Settles}
 use Rattle.settling.proofs.Invariants.{Done, Inv, HappensFairly}
 use Rattle.settling.proofs.AfterTests.{inv-acts}
 use Rattle.settling.proofs.Quiet.{quiet-view}
@@ -65,7 +67,8 @@ start-inv A last = record {
     never : {B : Type 0} (i : ℕ) → Done A last 0 i → B
     never i d = let l = d .1 in absurd (omega arith)
 
-module _ (A : ℕ) (states : ℕ → State) (links : ℕ → ℕ → List Item) (es : List WorldEvent) (last : ℕ → ℕ) (known : Assumed A states links es last) where
+module _ (A : ℕ) (states : ℕ → State) (links : ℕ → ℕ → List Item) (es : List WorldEvent) (last : ℕ → ℕ)
+    (known : Assumed A states links es last) where
   abbrev start : World
   start = atFirst states links
 
@@ -95,9 +98,11 @@ module _ (A : ℕ) (states : ℕ → State) (links : ℕ → ℕ → List Item) 
   net-left n i e q h = ap (λ (w : World). w .state i .net .bits) (sym (at-next start es n e h)) ∙ net-is (n + 1) i q
 
   -- after its last report no event changes it
-  kept-after : (n i : ℕ) (e : WorldEvent) → OfA A i → Nth es n e → last i < n → next (world n) e .state i .net .bits ≡ world n .state i .net .bits
+  kept-after : (n i : ℕ) (e : WorldEvent) → OfA A i → Nth es n e → last i < n
+      → next (world n) e .state i .net .bits ≡ world n .state i .net .bits
   kept-after n i e q h lt =
-      net-left n i e q h ∙ stays-after A states links es (last i) i (known .has-last i q) n lt (h .0) ∙ sym (net-is n i q)
+      net-left n i e q h ∙ stays-after A states links es (last i) i (known .has-last i q) n lt (h .0)
+      ∙ sym (net-is n i q)
 
   -- so it is A, for so it is at the end
   net-from : (n i : ℕ) → n ≤ length es → OfA A i → last i < n → net i n ≡ A
@@ -167,7 +172,8 @@ module _ (A : ℕ) (states : ℕ → State) (links : ℕ → ℕ → List Item) 
     known-along = shown-along (serves A) states links es begins (known .among) (λ n g. Inv A last n g × I n g) one
 
     known-at : I 0 atStart → (n : ℕ) → n ≤ length es → Known I n
-    known-at i = shown-at (serves A) states links es begins (known .among) (λ n g. Inv A last n g × I n g) one (start-inv A last, i)
+    known-at i = shown-at (serves A) states links es begins (known .among) (λ n g. Inv A last n g × I n g) one
+        (start-inv A last, i)
 
   abbrev Whatever : ℕ → Offices → Type 0
   Whatever n g = 0 ≤ n
@@ -214,11 +220,13 @@ module _ (A : ℕ) (states : ℕ → State) (links : ℕ → ℕ → List Item) 
       let s = any-time A states links es last known T T-in in
       let c : w-at T .clock ≡ T = clock-is A states links es last known T T-in in
       let early : (i j : ℕ) → OfA A i → OfA A j → (i ≡ j → ⊥) → Every (λ x. x .sent < T) (s .0 .link i j)
-      = λ i j a b n. subst (λ (t : ℕ). Every (λ x. x .sent < t) (s .0 .link i j)) c (rw (s .1 .links i j (a, b .0, n)) at (s .1 .stamped i j (a, b .0, n))) in
+      = λ i j a b n. subst (λ (t : ℕ). Every (λ x. x .sent < t) (s .0 .link i j)) c
+      (rw (s .1 .links i j (a, b .0, n)) at (s .1 .stamped i j (a, b .0, n))) in
       let same : P ≡ onWay A (s .0 .link) =
       same-way A (w-at T .link) (s .0 .link) (λ i j a b n. s .1 .links i j (a, b .0, n)) in
       let first : Goes A last T P (after .after) 0 (s .0)
-      = subst (λ (x : ℕ). Goes A last T x (after .after) 0 (s .0)) (sym same) (at-first A last T (after .after) (s .0) early) in
+      = subst (λ (x : ℕ). Goes A last T x (after .after) 0 (s .0)) (sym same)
+      (at-first A last T (after .after) (s .0) early) in
       let r = known-along A states links es last known Counted count-one T (length es) T-in (omega arith)
       (s .0, s .1, s .2, (s .3 .0, (omega arith, 0, first, omega arith))) in
       let z : deliveries A (w-at (length es)) (drop (length es) es) ≡ 0 = rw (drop-length es) in
@@ -235,8 +243,15 @@ module _ (A : ℕ) (states : ℕ → State) (links : ℕ → ℕ → List Item) 
 
   quiet-at : (n : ℕ) → T ≤ n → n ≤ length es → onWay A (w-at n .link) ≡ 0 → Quiet n
   quiet-at n t h z =
-      let s = any-time A states links es last known n h in
-      (s .0, s .1, s .2, (s .3 .0, (t, λ i j a b m. sym (s .1 .links i j (a, b .0, m)) ∙ none-on-way A (w-at n .link) z i j a b m)))
+      let s = any-time A states links es last known n h in (
+        s .0,
+        s .1,
+        s .2,
+        (
+          s .3 .0,
+          (t, λ i j a b m. sym (s .1 .links i j (a, b .0, m)) ∙ none-on-way A (w-at n .link) z i j a b m),
+        ),
+      )
 
   quiet-on : (n m : ℕ) → n ≤ m → m ≤ length es → Quiet n → Quiet m
   quiet-on = known-along A states links es last known Still
@@ -288,7 +303,8 @@ module _ (A : ℕ) (states : ℕ → State) (links : ℕ → ℕ → List Item) 
       )
 
 -- the settling rule
-pub settles : (A : ℕ) (states : ℕ → State) (links : ℕ → ℕ → List Item) (es : List WorldEvent) → Settles A states links es
+pub settles : (A : ℕ) (states : ℕ → State) (links : ℕ → ℕ → List Item) (es : List WorldEvent)
+    → Settles A states links es
 unfolding from
 settles A states links es last T known after =
     (bounded A states links es last T known after, settled A states links es last T known after)

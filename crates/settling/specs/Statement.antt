@@ -1,5 +1,5 @@
--- The settling rule (demand 3), stated over the world of crate runs: what is assumed, what is claimed. The proof stands in proofs/; its
--- end is `settles` in Settling.antt.
+-- The settling rule (demand 3), stated over the world of crate runs: what is assumed, what is claimed. The proof
+-- stands in proofs/; its end is `settles` in Settling.antt.
 use mathlib.Core.Path.{_≡_}
 use mathlib.Core.Bool.{Bool, true, _&&_, not}
 use mathlib.Core.List.{List, [], _∷_}
@@ -15,7 +15,8 @@ use Rattle.records.specs.declared.View.{View}
 use Rattle.rules.specs.State.{State}
 use Rattle.rules.specs.Rules.{fresh}
 use Rattle.rules.specs.Refusals.{Result, wellFormed}
-use Rattle.runs.specs.World.{Item, SentView, viewsIn, World, atFirst, WorldEvent, report, delivery, loss, next, at, Nth, Gives, netBy, Among}
+use Rattle.runs.specs.World.{Item, SentView, viewsIn, World, atFirst, WorldEvent, report, delivery, loss, next, at}
+use Rattle.runs.specs.World.{Nth, Gives, netBy, Among}
 
 -- i and j are two offices of A
 abbrev pub between : ℕ → ℕ → ℕ → Bool
@@ -96,7 +97,8 @@ module _ (A : ℕ) (states : ℕ → State) (links : ℕ → ℕ → List Item) 
     pub latest : (i : ℕ) → OfA A i → (t : ℕ) × (vs : List SentView)
         × (viewsIn (at first es n .log i) ≡ record { view = v; sent = t } ∷ vs) × (last i ≤ t)
     -- they send no more
-    pub no-more : (m i : ℕ) (r : Result) (e : WorldEvent) → n ≤ m → OfA A i → Nth es m e → Gives (at first es m) e i r → r .written ≡ []
+    pub no-more : (m i : ℕ) (r : Result) (e : WorldEvent) → n ≤ m → OfA A i → Nth es m e → Gives (at first es m) e i r
+        → r .written ≡ []
 
   -- the settling rule: P is what is on its way at T, k the number of the offices of A
   abbrev pub Settles : Type 0

@@ -18,11 +18,18 @@ report joining = encodeReport (record { joining = record { bits = joining }; lea
 
 abbrev P : List ℕ
 P = encodeProposal
-    (record { sender = 1; kind = 1; members = record { bits = 0b10001 }; start = 1; number = 1; used = tab 16 (λ o. 0) })
+    (record {
+      sender = 1;
+      kind = 1;
+      members = record { bits = 0b10001 };
+      start = 1;
+      number = 1;
+      used = tab 16 (λ o. 0);
+    })
 
 pub computed : List ℕ
-unfolding given madeOf runCheck runSize runFirst runRest decimalIn decimal traceOf lineOf frontOf behindOf lineFor goesOn linesIn linesOf noOffice
-    textOf
+unfolding given madeOf runCheck runSize runFirst runRest decimalIn decimal traceOf lineOf frontOf behindOf lineFor
+    goesOn linesIn linesOf noOffice textOf
 computed = textOf false (0 ∷ (report 0b1 ++ (report 0b10000 ++ (P ++ P))))
 
 -- 1 0 92 2, 2 0 98 2, 3 0 78 3, 4 11 0 3
