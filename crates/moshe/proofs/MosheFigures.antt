@@ -22,8 +22,8 @@ use Rattle.seats.proofs.OfficeLaws.{seat-serves, serves-seat}
 use Rattle.records.specs.declared.Report.{Report}
 use Rattle.records.specs.declared.Proposal.{Proposal}
 use Rattle.rules.specs.State.{Mode, None, Fast, Slow, Slot, State, keeping, fast, slow, zeros, storedAt, acceptedAt}
-use Rattle.rules.specs.Rules.{notice, proposal, Outcome, nothingWritten, andThen, fresh, netAfter, withNet, repeats}
-use Rattle.rules.specs.Rules.{seated, opened, noticeOf, opens, nextNumber, ownProposal, proposed, receives}
+use Rattle.rules.specs.Rules.{notice, proposal, Outcome, nothingWritten, andThen, fresh, restarted, netAfter, withNet}
+use Rattle.rules.specs.Rules.{repeats, seated, opened, noticeOf, opens, nextNumber, ownProposal, proposed, receives}
 use Rattle.rules.specs.Rules.{proposesFast, received, inSlot}
 use Rattle.rules.specs.Rules.{slowCalled, beginsIn, proposesSlow, slowTest, isNone, agreesKind, agreesIn, agreed}
 use Rattle.rules.specs.Rules.{startOf, viewOf, concluded, agreementTest, tests, changeRule, reportRule, proposalRule}
@@ -50,7 +50,7 @@ local-some v = (
 
 -- the initial values are the fresh state
 pub initially-fresh : (o : ℕ) → stateFrom zeros (initially o) ≡ fresh o
-unfolding fresh initially
+unfolding fresh restarted initially
 initially-fresh o = refl
 
 -- one part after another, on either side

@@ -13,7 +13,7 @@ use Rattle.laws.proofs.Upd.{upd-same, upd-other}
 use Rattle.seats.specs.declared.SeatSet.{SeatSet}
 use Rattle.records.specs.declared.View.{View}
 use Rattle.rules.specs.State.{State, Slot, storedAt}
-use Rattle.rules.specs.Rules.{fresh}
+use Rattle.rules.specs.Rules.{restarted}
 use Rattle.row.specs.Row.{ownPlace, modePlace, netPlace, membersPlace, slotLength, slotPlace, startPlace}
 use Rattle.row.specs.Row.{numberPlace, viewPlace, startsPlace, acceptedPlace, usedPlace, storedLength}
 use Rattle.row.specs.Row.{numbersPlace, rowLength, setWords, slotWords, slotNumbers, modeOf, sixteenWords}
@@ -310,7 +310,9 @@ stored-changed ws o v r lt n =
       };
     }
 
--- zeros and the own office: the fresh state
-pub fresh-words : (o : ℕ) → set (tab rowLength (λ k. 0)) ownPlace o ≡ wordsOf (fresh o)
-unfolding tab wordsOf fresh
-fresh-words o = refl
+-- zeros, the own office and one number three times: a state that begins again
+pub restarted-words : (o m : ℕ)
+    → set (set (set (set (tab rowLength (λ k. 0)) ownPlace o) startPlace m) numberPlace m) viewPlace m
+    ≡ wordsOf (restarted o m)
+unfolding tab wordsOf restarted
+restarted-words o m = refl

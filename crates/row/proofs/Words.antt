@@ -13,7 +13,7 @@ use Rattle.laws.specs.Tab.{tab}
 use Rattle.laws.proofs.Tab.{tab-ext, length-tab, getD-tab, filled}
 use Rattle.laws.proofs.Seqs.{tab-add, tab-self}
 use Rattle.rules.specs.State.{Mode, None, Fast, Slow, Slot, State, kindOf, zeros, nothing, storedAt}
-use Rattle.rules.specs.Rules.{fresh}
+use Rattle.rules.specs.Rules.{restarted}
 use Rattle.rule_laws.proofs.Shapes.{Shaped}
 use Rattle.row.specs.Row.{word, ownPlace, modePlace, netPlace, membersPlace, slotLength, slotPlace, startPlace}
 use Rattle.row.specs.Row.{numberPlace, viewPlace, startsPlace, acceptedPlace, usedPlace, storedLength}
@@ -322,9 +322,9 @@ state-shaped ws = record {
     slot o (no l) = let z = length-tab 16 (slotOf ws) in
         rw (List·getD-eq-default (tab 16 (slotOf ws)) nothing {n = o} (omega arith)) nothing-long
 
-pub fresh-shaped : (o : ℕ) → Shaped (fresh o)
-unfolding fresh tab
-fresh-shaped o = record {
+pub restarted-shaped : (o m : ℕ) → Shaped (restarted o m)
+unfolding restarted tab
+restarted-shaped o m = record {
   stored = refl;
   accepted = refl;
   used = refl;
@@ -332,7 +332,7 @@ fresh-shaped o = record {
   slots = λ k. slot k (decLt k 16);
 }
   where
-    slot : (k : ℕ) → Dec (k < 16) → length (storedAt (fresh o) k .proposal .used) ≡ 16
+    slot : (k : ℕ) → Dec (k < 16) → length (storedAt (restarted o m) k .proposal .used) ≡ 16
     slot k (yes l) = rw (getD-tab 16 (λ i. nothing) k nothing l) nothing-long
     slot k (no l) = let z = length-tab {A = Slot} 16 (λ i. nothing) in
         rw (List·getD-eq-default (tab 16 (λ i. nothing)) nothing {n = k} (omega arith)) nothing-long

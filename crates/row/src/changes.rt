@@ -8,7 +8,7 @@ use seats::SeatSet;
 ghost use mathlib.Core.Path.{_≡_};
 ghost use Prim.Native.Nat.{_<_, _≤_};
 ghost use lib.ListN.{length};
-ghost use Rattle.rules.specs.Rules.{fresh};
+ghost use Rattle.rules.specs.Rules.{restarted};
 ghost use Rattle.row.specs.Row.{rowLength, Row, wordsOf, modeOf};
 ghost use Rattle.row.specs.Changes.{Changed};
 ghost use Rattle.rules.specs.State.{withMode, withNetSet, withStart, withNumber, withView, withAccepted, withUsed};
@@ -65,13 +65,16 @@ pub fn put_view(s: &mut [u32], v: View)
     put_run(s, layout::STARTS, &starts);
 }
 
-// The fresh state of an office, over any words.
-pub fn put_fresh(s: &mut [u32], office: u8)
+// The state of an office that begins again at number m, over any words; at 0 it is the fresh one.
+pub fn put_restarted(s: &mut [u32], office: u8, m: u32)
     requires { ⌜ length (now s) ≡ rowLength ⌝ }
-    ensures { λ _. ⌜ now (s .exit) ≡ wordsOf (fresh office) ⌝ }
+    ensures { λ _. ⌜ now (s .exit) ≡ wordsOf (restarted office m) ⌝ }
 {
     put_zeros(s);
     s[layout::OWN] = office as u32;
+    s[layout::START] = m;
+    s[layout::NUMBER] = m;
+    s[layout::VIEW] = m;
 }
 
 pub fn copy(from: &[u32], to: &mut [u32])

@@ -8,7 +8,7 @@ use Rattle.records.specs.declared.Proposal.{Proposal}
 use Rattle.records.specs.declared.View.{View}
 use Rattle.rules.specs.State.{Mode, None, Slot, State, kindOf, nothing, keeping, storedAt, acceptedAt, usedAt, usedFor}
 use Rattle.rules.specs.State.{numberIn}
-use Rattle.rules.specs.Rules.{fresh, withNet, opened, ownProposal, proposed, received, concluded, viewOf}
+use Rattle.rules.specs.Rules.{fresh, restarted, withNet, opened, ownProposal, proposed, received, concluded, viewOf}
 
 -- the parts of a state, those of an office o for every o below 16
 pub record Reads (t : State) (own : ℕ) (mode : Mode) (net : ℕ) (stored : ℕ → Slot) (accepted : ℕ → ℕ) (view : View)
@@ -24,10 +24,10 @@ pub record Reads (t : State) (own : ℕ) (mode : Mode) (net : ℕ) (stored : ℕ
   pub number-is : t .number ≡ number
   pub used-is : (o : ℕ) → o < 16 → usedAt t o ≡ used o
 
-pub fresh-reads : (own : ℕ)
-    → Reads (fresh own) own None 0 (λ o. nothing) (λ o. 0) (fresh own .view) 0 0 (λ o. 0)
-unfolding fresh
-fresh-reads own = record {
+pub restarted-reads : (own m : ℕ)
+    → Reads (restarted own m) own None 0 (λ o. nothing) (λ o. 0) (restarted own m .view) m m (λ o. 0)
+unfolding restarted
+restarted-reads own m = record {
   own-is = refl;
   mode-is = refl;
   net-is = refl;
@@ -38,6 +38,20 @@ fresh-reads own = record {
   number-is = refl;
   used-is = λ o h. getD-tab 16 (λ k. 0) o 0 h;
 }
+
+pub restarted-view : (own m : ℕ) → restarted own m .view .number ≡ m
+unfolding restarted
+restarted-view own m = refl
+
+-- a fresh state is one restarted at 0
+pub fresh-restarted : (own : ℕ) → fresh own ≡ restarted own 0
+unfolding fresh
+fresh-restarted own = refl
+
+pub fresh-reads : (own : ℕ)
+    → Reads (fresh own) own None 0 (λ o. nothing) (λ o. 0) (fresh own .view) 0 0 (λ o. 0)
+unfolding fresh
+fresh-reads own = restarted-reads own 0
 
 module _ (s : State) where
   pub withNet-reads : (x : ℕ)

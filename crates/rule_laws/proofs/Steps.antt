@@ -19,8 +19,8 @@ use Rattle.records.proofs.NumberLaws.{stray-out, stray-in}
 use Rattle.records.specs.Layout.{checkOf}
 use Rattle.records.specs.declared.Proposal.{Proposal}
 use Rattle.rules.specs.State.{Slot, State, fast, slow, storedAt, acceptedAt, usedAt, usedFor}
-use Rattle.rules.specs.Rules.{Outcome, fresh}
-use Rattle.rule_laws.proofs.Parts.{fresh-reads}
+use Rattle.rules.specs.Rules.{Written, fresh, restarted}
+use Rattle.rule_laws.proofs.Parts.{restarted-reads, restarted-view, fresh-restarted}
 use Rattle.rules.specs.Refusals.{fullRoom, slotWithin, wellFormed, unreadable, Event, eventOf, wrongSender, wrongKind}
 use Rattle.rules.specs.Refusals.{wrongNumber, withoutSeat, strayUsed, notAbove, usedAhead, proposalChecks, refusalOf}
 use Rattle.rules.specs.Refusals.{ruleOf, Result, refused, accepted, accepting, actOf, takeOf, stepOf}
@@ -78,13 +78,13 @@ facts-well s h =
       λ o l. facts-slot (storedAt s o) (h .stored o l),
     )
 
--- a fresh state passes check 2
-pub fresh-well : (own : ℕ) → own < 16 → wellFormed (fresh own) ≡ true
-fresh-well own lt =
-    let r = fresh-reads own in
-    facts-well (fresh own) (record {
+-- a restarted state passes check 2, and so does a fresh one
+pub restarted-well : (own m : ℕ) → own < 16 → m ≤ limit → wellFormed (restarted own m) ≡ true
+restarted-well own m lt le =
+    let r = restarted-reads own m in
+    facts-well (restarted own m) (record {
       own = let a = r .own-is in omega arith;
-      view = let a = view in omega arith;
+      view = let a = restarted-view own m in omega arith;
       start = let a = r .start-is in omega arith;
       number = let a = r .number-is in omega arith;
       starts = λ o l. let a = starts o l in omega arith;
@@ -93,11 +93,11 @@ fresh-well own lt =
       stored = λ o l p. absurd (true-false _ p (ap (λ (v : Slot). v .present) (r .stored-is o l)));
     })
   where
-    view : fresh own .view .number ≡ 0
-    view = unfold fresh in refl
+    starts : (o : ℕ) → o < 16 → getD (restarted own m .view .starts) o 0 ≡ 0
+    starts o l = unfold restarted in getD-tab 16 (λ k. 0) o 0 l
 
-    starts : (o : ℕ) → o < 16 → getD (fresh own .view .starts) o 0 ≡ 0
-    starts o l = unfold fresh in getD-tab 16 (λ k. 0) o 0 l
+pub fresh-well : (own : ℕ) → own < 16 → wellFormed (fresh own) ≡ true
+fresh-well own lt = rw (fresh-restarted own) (restarted-well own 0 lt (omega arith))
 
 -- what a proposal that passes checks 6 to 12 satisfies
 pub record Passes (s : State) (p : Proposal) : Type 0 where
@@ -275,6 +275,16 @@ step-skips s b room n = go (step-cases s b room)
         × (stepOf s b room .written ≡ [])
     go (inl r) = (ap (λ (q : Result). q .state) (r .is), ap (λ (q : Result). q .written) (r .is))
     go (inr a) = absurd (n (a .readable))
+
+-- what holds of nothing done and of every event taken holds of the step
+pub step-by : (s : State) (b : List ℕ) (room : ℕ) (P : List Written → State → Type 0) → P [] s
+    → ((e : Event) → P (takeOf s e room .written) (takeOf s e room .state))
+    → P (stepOf s b room .written) (stepOf s b room .state)
+step-by s b room P z h = go (ℕ-discrete (checkOf b) 0)
+  where
+    go : Dec (checkOf b ≡ 0) → P (stepOf s b room .written) (stepOf s b room .state)
+    go (yes e) = rw (step-takes s b room e) (h (eventOf b))
+    go (no n) = let k = step-skips s b room n in rw (k .0, k .1) z
 
 -- a refusal leaves the state and writes nothing
 pub refused-keeps : (s : State) (b : List ℕ) (room : ℕ) → (stepOf s b room .refusal ≡ 0 → ⊥)

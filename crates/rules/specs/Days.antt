@@ -13,11 +13,11 @@ use Rattle.seats.specs.Offices.{serves}
 use Rattle.records.specs.Layout.{encodeReport, decodeReport, encodeProposal, decodeProposal, encodeNotice, encodeView}
 use Rattle.records.specs.Layout.{markOf, formFor, formOf, checkFor, checkOf}
 use Rattle.rules.specs.State.{None, Fast, State, fast, slow}
-use Rattle.rules.specs.Rules.{Written, notice, proposal, view, andThen, fresh, netAfter, withNet, repeats}
-use Rattle.rules.specs.Rules.{seated, opened, noticeOf, opens, nextNumber, ownProposal, proposed, receives}
-use Rattle.rules.specs.Rules.{proposesFast, received, matching, matchingSlow, aboveOwn, usesOwn, slowCalled}
-use Rattle.rules.specs.Rules.{joinedNumber, slowNumber, proposesSlow, slowTest, agreesKind, isNone, agreed}
-use Rattle.rules.specs.Rules.{startOf, viewOf, concluded, agreementTest, tests, changeRule, reportRule}
+use Rattle.rules.specs.Rules.{Written, notice, proposal, view, andThen, fresh, restarted, netAfter, withNet}
+use Rattle.rules.specs.Rules.{repeats, seated, opened, noticeOf, opens, nextNumber, ownProposal, proposed}
+use Rattle.rules.specs.Rules.{receives, proposesFast, received, matching, matchingSlow, aboveOwn, usesOwn}
+use Rattle.rules.specs.Rules.{slowCalled, joinedNumber, slowNumber, proposesSlow, slowTest, agreesKind, isNone}
+use Rattle.rules.specs.Rules.{agreed, startOf, viewOf, concluded, agreementTest, tests, changeRule, reportRule}
 use Rattle.rules.specs.Rules.{proposalRule}
 use Rattle.records.specs.Numbers.{limit}
 use Rattle.rules.specs.Refusals.{Result, slotWithin, wellFormed, unreadable, eventOf, wrongSender, wrongKind}
@@ -60,15 +60,12 @@ two a b = a ∷ b ∷ tab 14 (λ o. 0)
 -- a record handed in, with the least output; to unfold it is to unfold the rules
 unfoldable pub given : State → List ℕ → Result
 unfolding upd allb anyb largest tab bytesAll bit has unionOf withoutOf serves encodeReport decodeReport encodeProposal
-    decodeProposal encodeNotice encodeView markOf formFor formOf checkFor checkOf andThen fresh netAfter withNet
-    repeats seated opened
-    noticeOf opens nextNumber
-    ownProposal proposed receives proposesFast received matching matchingSlow aboveOwn usesOwn slowCalled joinedNumber
-    slowNumber proposesSlow
-    slowTest agreesKind isNone agreed startOf viewOf concluded agreementTest tests changeRule reportRule proposalRule
-    slotWithin wellFormed unreadable
-    eventOf wrongSender wrongKind wrongNumber withoutSeat strayUsed notAbove usedAhead proposalChecks accepting actOf
-    takeOf stepOf allBytes
+    decodeProposal encodeNotice encodeView markOf formFor formOf checkFor checkOf andThen fresh restarted netAfter
+    withNet repeats seated opened noticeOf opens nextNumber ownProposal proposed receives proposesFast received
+    matching matchingSlow aboveOwn usesOwn slowCalled joinedNumber slowNumber proposesSlow slowTest agreesKind isNone
+    agreed startOf viewOf concluded agreementTest tests changeRule reportRule proposalRule slotWithin wellFormed
+    unreadable eventOf wrongSender wrongKind wrongNumber withoutSeat strayUsed notAbove usedAhead proposalChecks
+    accepting actOf takeOf stepOf allBytes
 given s b = stepOf s b fullRoom
 
 -- what is handed in: a report of joining and of leaving seats, one of joining seats only, and P of document 01

@@ -13,7 +13,7 @@ use Rattle.records.specs.declared.Proposal.{Proposal}
 use Rattle.records.specs.declared.Notice.{Notice}
 use Rattle.records.specs.declared.View.{View}
 use Rattle.rules.specs.State.{Mode, None, Fast, Slow, State, slow, kindOf, zeros, nothing, keeping, storedAt}
-use Rattle.rules.specs.State.{acceptedAt, usedAt, usedFor, numberIn, withMode, withNetSet, withStored}
+use Rattle.rules.specs.State.{usedAt, usedFor, numberIn, withMode, withNetSet, withStored}
 use Rattle.rules.specs.State.{withAccepted, withStart, withNumber}
 
 -- a record written: to this office's seats, to the other offices, to this office's seats
@@ -34,20 +34,24 @@ nothingWritten s = record { state = s; written = [] }
 unfoldable pub andThen : Outcome → (State → Outcome) → Outcome
 andThen o f = record { state = f (o .state) .state; written = o .written ++ f (o .state) .written }
 
--- State. Fresh: mode none, sets empty, nothing stored, all numbers 0.
-unfoldable pub fresh : ℕ → State
-fresh own =
+-- State. Fresh: mode none, sets empty, nothing stored, all numbers 0. After a restart proposal number, start number
+-- and view number begin at m, and all else is fresh.
+unfoldable pub restarted : ℕ → ℕ → State
+restarted own m =
     record {
       own = own;
       mode = None;
       net = record { bits = 0 };
       stored = tab 16 (λ o. nothing);
       accepted = zeros;
-      view = record { number = 0; members = record { bits = 0 }; starts = zeros };
-      start = 0;
-      number = 0;
+      view = record { number = m; members = record { bits = 0 }; starts = zeros };
+      start = m;
+      number = m;
       used = zeros;
     }
+
+unfoldable pub fresh : ℕ → State
+fresh own = restarted own 0
 
 -- A report arrives, step 1: the net view with joining, then without leaving.
 unfoldable pub netAfter : ℕ → Report → ℕ

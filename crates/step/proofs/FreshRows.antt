@@ -6,12 +6,13 @@ use native.Mathlib.Omega.{arith}
 use native.Mathlib.Decide.{decLt}
 use lib.ListN.{length}
 use borrow.Author.Tests.{ne-eqb, eq-eqb, le-leb, lt-leb}
-use Rattle.rules.specs.Rules.{fresh}
+use Rattle.rules.specs.Rules.{restarted}
 use Rattle.rules.specs.Refusals.{Made, madeOf}
 use Rattle.rule_laws.proofs.Exits.{made-0, made-1}
+use Rattle.rule_laws.proofs.Parts.{fresh-restarted}
 use Rattle.rule_laws.proofs.Shapes.{Shaped}
 use Rattle.row.specs.Row.{rowLength, wordsOf}
-use Rattle.row.proofs.Words.{fresh-shaped}
+use Rattle.row.proofs.Words.{restarted-shaped}
 use Rattle.row.proofs.Holds.{Holds, shaped-holds}
 use Rattle.step.specs.Fresh.{freshRow}
 
@@ -40,15 +41,15 @@ module _ (office : ℕ) (ws : List ℕ) (n : ℕ) (e : n ≡ madeOf office .refu
     fresh-2 z = rw (ne-eqb (length ws) rowLength other, le-leb office 15 (most z))
 
   module _ (long : length ws ≡ rowLength) where
-    pub fresh-1 : (n ≡ 0 → ⊥) → (ws′ : List ℕ) → ws′ ≡ wordsOf (fresh 0)
+    pub fresh-1 : (n ≡ 0 → ⊥) → (ws′ : List ℕ) → ws′ ≡ wordsOf (restarted 0 0)
         → record { refusal = 1; words = ws′ } ≡ freshRow office ws
     unfolding freshRow
-    fresh-1 h ws′ d = rw (d, eq-eqb (length ws) rowLength long, made-1 office (above h))
+    fresh-1 h ws′ d = rw (d, eq-eqb (length ws) rowLength long, made-1 office (above h), fresh-restarted 0)
 
-    pub fresh-0 : n ≡ 0 → (ws′ : List ℕ) → ws′ ≡ wordsOf (fresh office)
+    pub fresh-0 : n ≡ 0 → (ws′ : List ℕ) → ws′ ≡ wordsOf (restarted office 0)
         → record { refusal = 0; words = ws′ } ≡ freshRow office ws
     unfolding freshRow
-    fresh-0 z ws′ d = rw (d, eq-eqb (length ws) rowLength long, made-0 office (most z))
+    fresh-0 z ws′ d = rw (d, eq-eqb (length ws) rowLength long, made-0 office (most z), fresh-restarted office)
 
 -- in words of a row's length the refusal is that of making a state
 pub fresh-refusal : (office : ℕ) (ws : List ℕ) → length ws ≡ rowLength
@@ -60,8 +61,8 @@ made-shaped : (office : ℕ) → Shaped (madeOf office .state)
 made-shaped office = go (decLt 15 office)
   where
     go : Dec (15 < office) → Shaped (madeOf office .state)
-    go (yes l) = rw (made-1 office l) (fresh-shaped 0)
-    go (no l) = rw (made-0 office (omega arith)) (fresh-shaped office)
+    go (yes l) = rw (made-1 office l) (rw (fresh-restarted 0) (restarted-shaped 0 0))
+    go (no l) = rw (made-0 office (omega arith)) (rw (fresh-restarted office) (restarted-shaped office 0))
 
 -- words of a row's length hold the state that was made
 pub fresh-holds : (office : ℕ) (ws : List ℕ) → length ws ≡ rowLength

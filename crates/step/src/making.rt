@@ -15,9 +15,9 @@ pub fn fresh(office: u8, state: &mut [u32]) -> u8
         return 2;
     }
     if refusal != 0 {
-        row::changes::put_fresh(state, 0);
+        row::changes::put_restarted(state, 0, 0);
         return 1;
     }
-    row::changes::put_fresh(state, office);
+    row::changes::put_restarted(state, office, 0);
     0
 }

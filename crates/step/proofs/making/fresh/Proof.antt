@@ -20,8 +20,8 @@ returns-2 c =
     fresh-2 (a .office) (a .state .now) (c .before .before .office-refusal .result)
     (c .before .before .office-refusal .ensures) (c .before .if1 .taken) (c .if2 .left)
 
-put-fresh-requires : tie.Need-put-fresh-requires
-put-fresh-requires c κs = search needs
+put-restarted-requires : tie.Need-put-restarted-requires
+put-restarted-requires c κs = search needs
 
 same-length : tie.Need-same-length
 same-length c = search needs
@@ -33,10 +33,10 @@ returns-3 c =
     let a = c8 .args in
     let n = c4 .before .before .office-refusal in
     fresh-1 (a .office) (a .state .now) (n .result) (n .ensures) (c4 .before .if1 .left) (c4 .if3 .taken) _
-    (c .before .before .put-fresh .ensures)
+    (c .before .before .put-restarted .ensures)
 
-put-fresh-requires-2 : tie.Need-put-fresh-requires-2
-put-fresh-requires-2 c κs = search needs
+put-restarted-requires-2 : tie.Need-put-restarted-requires-2
+put-restarted-requires-2 c κs = search needs
 
 same-length-2 : tie.Need-same-length-2
 same-length-2 c = search needs
@@ -48,7 +48,7 @@ returns-4 c =
     let a = c8 .args in
     let n = c4 .before .before .office-refusal in
     fresh-0 (a .office) (a .state .now) (n .result) (n .ensures) (c4 .before .if1 .left) (c4 .if3 .left) _
-    (c .before .before .put-fresh2 .ensures)
+    (c .before .before .put-restarted2 .ensures)
 
 pub fresh-spec : {M : Type 1} → statement M
 fresh-spec =
@@ -57,9 +57,9 @@ fresh-spec =
     office-refusal-requires
     returns
     returns-2
-    put-fresh-requires
+    put-restarted-requires
     same-length
     returns-3
-    put-fresh-requires-2
+    put-restarted-requires-2
     same-length-2
     returns-4)
