@@ -11,6 +11,7 @@ use Rattle.seats.specs.Seats.{seatCount}
 use Rattle.records.specs.Layout.{syncLength, decodeSync}
 use Rattle.records.specs.declared.View.{View}
 use Rattle.record_bytes.specs.declared.syncs.SyncRead.{SyncRead}
+use Rattle.laws.specs.Lists.{pieces}
 use Rattle.sheet.specs.Sheet.{recordsIn, recordsOn, missing, syncChecks, firstBad}
 use Rattle.sheet.proofs.Records.{records-split, records-next}
 use Rattle.sheet.proofs.Bad.{bad-append, bad-one}
@@ -28,7 +29,7 @@ pub record Going (v : View) (previous : ℕ) (sheet : List ℕ) (k : ℕ) (f : F
 module _ (v : View) (previous : ℕ) (sheet : List ℕ) where
   pub going-none : v .members .bits < 2 ^ 64
       → Going v previous sheet 0 (record { missing = v .members; same = record { bits = 0 } })
-  unfolding recordsIn firstBad
+  unfolding pieces firstBad
   going-none l = record { none-bad = refl; is = found-none v previous l }
 
   -- the record behind the first k

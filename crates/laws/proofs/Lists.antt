@@ -2,6 +2,8 @@
 use mathlib.Core.Path.{_≡_, refl}
 use mathlib.Core.Logic.{_⊎_, inl, inr}
 use mathlib.Core.List.{List, [], _∷_, _++_, List·Memᴰ, List·Memᴰ·not-nil, List·Memᴰ·cases-cons}
+use Prim.Native.Nat.{ℕ, zero, suc}
+use lib.ListN.{take}
 use Rattle.laws.specs.Lists.{runs, Every, none, more}
 
 -- lists entry by entry: an equal entry, then the rest. Where the entries are computed, each is compared by itself
@@ -40,6 +42,11 @@ module _ {A : Type 0} {R : A → Type 0} where
 
   pub every-tail : {a : A} {l : List A} → Every R (a ∷ l) → Every R l
   every-tail (more r e) = e
+
+  pub every-take : (n : ℕ) {l : List A} → Every R l → Every R (take n l)
+  every-take zero e = none
+  every-take (suc n) none = none
+  every-take (suc n) (more r e) = more r (every-take n e)
 
   -- so of one that is in the list
   pub every-at : {a : A} (l : List A) → Every R l → List·Memᴰ a l → R a

@@ -3,3 +3,4 @@ pub mod proposals
 pub mod notices
 pub mod views
 pub mod syncs
+pub mod highs

@@ -1,4 +1,4 @@
-// The five kinds of record as bytes: a reader and a writer for each.
+// The six kinds of record as bytes: a reader and a writer for each.
 
 // Numbers as bytes, read and written.
 mod bytes;
@@ -20,3 +20,6 @@ pub mod views;
 
 // What a desk sends the other desks after a start notice.
 pub mod syncs;
+
+// What an office keeps in its file before a record leaves.
+pub mod highs;

@@ -8,8 +8,9 @@ use Rattle.records.specs.declared.Proposal.{Proposal}
 use Rattle.records.specs.declared.Notice.{Notice}
 use Rattle.records.specs.declared.View.{View}
 use Rattle.records.specs.declared.Sync.{Sync}
-use Rattle.records.specs.Layout.{encodeReport, encodeProposal, encodeNotice, encodeView, encodeSync}
-use Rattle.records.specs.Layout.{reportLength, proposalLength, noticeLength, viewLength, syncLength}
+use Rattle.records.specs.declared.High.{High}
+use Rattle.records.specs.Layout.{encodeReport, encodeProposal, encodeNotice, encodeView, encodeSync, encodeHigh}
+use Rattle.records.specs.Layout.{reportLength, proposalLength, noticeLength, viewLength, syncLength, highLength}
 
 pub report-length : (r : Report) → length (encodeReport r) ≡ reportLength
 unfolding encodeReport
@@ -30,3 +31,7 @@ view-length v h = let e = length-all (v .starts) in omega arith
 pub sync-length : (r : Sync) → length (encodeSync r) ≡ syncLength
 unfolding encodeSync
 sync-length r = refl
+
+pub high-length : (h : High) → length (encodeHigh h) ≡ highLength
+unfolding encodeHigh
+high-length h = refl

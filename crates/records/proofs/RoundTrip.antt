@@ -16,18 +16,20 @@ use Rattle.records.specs.declared.Proposal.{Proposal}
 use Rattle.records.specs.declared.Notice.{Notice}
 use Rattle.records.specs.declared.View.{View}
 use Rattle.records.specs.declared.Sync.{Sync}
-use Rattle.records.specs.Layout.{encodeReport, encodeProposal, encodeNotice, encodeView, encodeSync, sixteenAt}
-use Rattle.records.specs.Layout.{decodeReport, decodeProposal, decodeNotice, decodeView, decodeSync}
-use Rattle.records.specs.Layout.{checkOf, checkOwn}
-use Rattle.records.specs.Layout.{reportMark, proposalMark, noticeMark, viewMark, syncMark}
-use Rattle.records.specs.Layout.{reportLength, proposalLength, noticeLength, viewLength, syncLength}
-use Rattle.records.specs.Layout.{joiningPlace, leavingPlace, senderPlace, kindPlace, proposalMembersPlace}
-use Rattle.records.specs.Layout.{proposalStartPlace, proposalNumberPlace, usedPlace, noticeStartPlace}
-use Rattle.records.specs.Layout.{noticeMembersPlace, viewNumberPlace, viewMembersPlace, startsPlace}
-use Rattle.records.specs.Layout.{syncSeatPlace, syncStartPlace, syncPreviousPlace}
+use Rattle.records.specs.declared.High.{High}
+use Rattle.records.specs.Layout.{encodeReport, encodeProposal, encodeNotice, encodeView, encodeSync, encodeHigh}
+use Rattle.records.specs.Layout.{decodeReport, decodeProposal, decodeNotice, decodeView, decodeSync, decodeHigh}
+use Rattle.records.specs.Layout.{checkOf, checkOwn, sixteenAt, reportMark, proposalMark, noticeMark, viewMark}
+use Rattle.records.specs.Layout.{syncMark, highMark, reportLength, proposalLength, noticeLength, viewLength}
+use Rattle.records.specs.Layout.{syncLength, highLength, joiningPlace, leavingPlace, senderPlace, kindPlace}
+use Rattle.records.specs.Layout.{proposalMembersPlace, proposalStartPlace, proposalNumberPlace, usedPlace}
+use Rattle.records.specs.Layout.{noticeStartPlace, noticeMembersPlace, viewNumberPlace, viewMembersPlace}
+use Rattle.records.specs.Layout.{startsPlace, syncSeatPlace, syncStartPlace, syncPreviousPlace, highNumberPlace}
+use Rattle.records.specs.Layout.{highAgainPlace}
 use Rattle.records.proofs.CheckLaws.{own-front, own-length, own-passes, report-checks, proposal-checks}
-use Rattle.records.proofs.Lengths.{report-length, proposal-length, notice-length, view-length, sync-length}
-use Rattle.records.specs.Fits.{FitsSixteen, FitsReport, FitsProposal, FitsNotice, FitsView, FitsSync}
+use Rattle.records.proofs.Lengths.{report-length, proposal-length, notice-length, view-length}
+use Rattle.records.proofs.Lengths.{sync-length, high-length}
+use Rattle.records.specs.Fits.{FitsSixteen, FitsReport, FitsProposal, FitsNotice, FitsView, FitsSync, FitsHigh}
 
 -- a value by its bytes
 pub report-back : (r : Report) → FitsReport r → decodeReport (encodeReport r) ≡ r
@@ -45,6 +47,10 @@ notice-back n f = rw (digits4 (n .start) (f .start), digits8 (n .members .bits) 
 pub sync-back : (r : Sync) → FitsSync r → decodeSync (encodeSync r) ≡ r
 unfolding encodeSync decodeSync
 sync-back r f = rw (digits4 (r .start) (f .start), digits4 (r .previous) (f .previous))
+
+pub high-back : (h : High) → FitsHigh h → decodeHigh (encodeHigh h) ≡ h
+unfolding encodeHigh decodeHigh
+high-back h f = rw (digits4 (h .number) (f .number), digits4 (h .again) (f .again))
 
 sixteen-back : (a l : List ℕ) → FitsSixteen l → sixteenAt (a ++ bytesAll l) (length a) ≡ l
 sixteen-back a l f = all-back a l 16 (f .count) (f .each)
@@ -91,6 +97,10 @@ view-passes v f = own-passes _ _ viewLength _ (view-length v (f .starts .count))
 pub sync-passes : (r : Sync) → checkOwn syncMark syncLength (encodeSync r) ≡ 0
 unfolding encodeSync
 sync-passes r = own-passes _ _ syncLength _ (sync-length r)
+
+pub high-passes : (h : High) → checkOwn highMark highLength (encodeHigh h) ≡ 0
+unfolding encodeHigh
+high-passes h = own-passes _ _ highLength _ (high-length h)
 
 pub report-checked : (r : Report) → checkOf (encodeReport r) ≡ 0
 report-checked r = report-checks (encodeReport r) (report-passes r)
@@ -144,6 +154,12 @@ module _ (b : List ℕ) (bytes : Below 256 b) where
       (both {a = getD b syncSeatPlace 0 ∷ []} refl
       (both (big4-back b bytes syncStartPlace) (big4-back b bytes syncPreviousPlace)))
 
+  pub high-again : checkOwn highMark highLength b ≡ 0 → encodeHigh (decodeHigh b) ≡ b
+  unfolding encodeHigh decodeHigh tab
+  high-again c =
+      whole _ _ (highLength - 2) _ (omega arith) (omega arith) c
+      (both (big4-back b bytes highNumberPlace) (big4-back b bytes highAgainPlace))
+
   -- what is read from bytes fits
   sixteen-fits : (at : ℕ) → FitsSixteen (sixteenAt b at)
   sixteen-fits at = record {
@@ -185,3 +201,7 @@ module _ (b : List ℕ) (bytes : Below 256 b) where
     start = big4-below b bytes syncStartPlace;
     previous = big4-below b bytes syncPreviousPlace;
   }
+
+  pub high-fits : FitsHigh (decodeHigh b)
+  unfolding decodeHigh
+  high-fits = record { number = big4-below b bytes highNumberPlace; again = big4-below b bytes highAgainPlace }

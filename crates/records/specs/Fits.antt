@@ -1,4 +1,4 @@
--- The values that fit the fields of the five records.
+-- The values that fit the fields of the six records.
 use mathlib.Core.Path.{_≡_}
 use mathlib.Core.List.{List}
 use Prim.Native.Nat.{ℕ, _<_, _^_}
@@ -9,6 +9,7 @@ use Rattle.records.specs.declared.Proposal.{Proposal}
 use Rattle.records.specs.declared.Notice.{Notice}
 use Rattle.records.specs.declared.View.{View}
 use Rattle.records.specs.declared.Sync.{Sync}
+use Rattle.records.specs.declared.High.{High}
 
 -- sixteen numbers of four bytes each
 pub record FitsSixteen (l : List ℕ) : Type 0 where
@@ -40,3 +41,7 @@ pub record FitsSync (r : Sync) : Type 0 where
   pub seat : r .seat < 256
   pub start : r .start < 2 ^ 32
   pub previous : r .previous < 2 ^ 32
+
+pub record FitsHigh (h : High) : Type 0 where
+  pub number : h .number < 2 ^ 32
+  pub again : h .again < 2 ^ 32

@@ -1,4 +1,4 @@
--- The layout of the five records, and checks 4 and 5. Numbers are stored most significant byte first; a record starts
+-- The layout of the six records, and checks 4 and 5. Numbers are stored most significant byte first; a record starts
 -- with its two-byte mark.
 use mathlib.Core.List.{List, [], _∷_, _++_}
 use Prim.Native.Nat.{ℕ, _+_, _*_}
@@ -13,10 +13,11 @@ use Rattle.records.specs.declared.Proposal.{Proposal}
 use Rattle.records.specs.declared.Notice.{Notice}
 use Rattle.records.specs.declared.View.{View}
 use Rattle.records.specs.declared.Sync.{Sync}
+use Rattle.records.specs.declared.High.{High}
 use Rattle.records.specs.declared.Form.{Form}
 use Rattle.records.specs.declared.RecordKind.the-variants as kinds
 
--- the marks "NE", "PR", "SC", "VW", "SY"
+-- the marks "NE", "PR", "SC", "VW", "SY", "HM"
 abbrev pub reportMark : List ℕ
 reportMark = 0x4e ∷ 0x45 ∷ []
 
@@ -31,6 +32,9 @@ viewMark = 0x56 ∷ 0x57 ∷ []
 
 abbrev pub syncMark : List ℕ
 syncMark = 0x53 ∷ 0x59 ∷ []
+
+abbrev pub highMark : List ℕ
+highMark = 0x48 ∷ 0x4d ∷ []
 
 -- report, 18 bytes: 2-9 joining, 10-17 leaving
 abbrev pub joiningPlace : ℕ
@@ -100,6 +104,16 @@ syncPreviousPlace = 7
 abbrev pub syncLength : ℕ
 syncLength = 11
 
+-- high mark, 10 bytes: 2-5 number, 6-9 the same number again
+abbrev pub highNumberPlace : ℕ
+highNumberPlace = 2
+
+abbrev pub highAgainPlace : ℕ
+highAgainPlace = 6
+
+abbrev pub highLength : ℕ
+highLength = 10
+
 -- the set of seats at a place
 abbrev pub seatsAt : List ℕ → ℕ → SeatSet
 seatsAt b at = record { bits = big8 b at }
@@ -149,6 +163,12 @@ encodeSync r = syncMark ++ (r .seat ∷ []) ++ bytes4 (r .start) ++ bytes4 (r .p
 unfoldable pub decodeSync : List ℕ → Sync
 decodeSync b =
     record { seat = getD b syncSeatPlace 0; start = big4 b syncStartPlace; previous = big4 b syncPreviousPlace }
+
+unfoldable pub encodeHigh : High → List ℕ
+encodeHigh h = highMark ++ bytes4 (h .number) ++ bytes4 (h .again)
+
+unfoldable pub decodeHigh : List ℕ → High
+decodeHigh b = record { number = big4 b highNumberPlace; again = big4 b highAgainPlace }
 
 -- the two bytes of a mark as one number
 abbrev pub valueOf : List ℕ → ℕ

@@ -10,10 +10,16 @@ pub const VIEW_MARK: [u8; 2] = *b"VW";
 
 pub const SYNC_MARK: [u8; 2] = *b"SY";
 
+pub const HIGH_MARK: [u8; 2] = *b"HM";
+
 // Each mark's value: its two bytes as one number.
 pub const REPORT: u16 = (REPORT_MARK[0] as u16) * 256 + (REPORT_MARK[1] as u16);
 
 pub const PROPOSAL: u16 = (PROPOSAL_MARK[0] as u16) * 256 + (PROPOSAL_MARK[1] as u16);
+
+pub const NOTICE: u16 = (NOTICE_MARK[0] as u16) * 256 + (NOTICE_MARK[1] as u16);
+
+pub const VIEW: u16 = (VIEW_MARK[0] as u16) * 256 + (VIEW_MARK[1] as u16);
 
 pub const REPORT_LENGTH: usize = 18;
 
@@ -56,3 +62,9 @@ pub const SYNC_SEAT: usize = 2;
 pub const SYNC_START: usize = 3;
 
 pub const SYNC_PREVIOUS: usize = 7;
+
+pub const HIGH_LENGTH: usize = 10;
+
+pub const HIGH_NUMBER: usize = 2;
+
+pub const HIGH_AGAIN: usize = 6;

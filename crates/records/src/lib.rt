@@ -1,4 +1,4 @@
-// The five records, as values, and one layout for reading and writing them. The kind of a proposal stays the raw byte
+// The six records, as values, and one layout for reading and writing them. The kind of a proposal stays the raw byte
 // (1 fast, 2 slow), so that every byte string of the right length and mark is a record.
 use seats::SeatSet;
 
@@ -58,6 +58,12 @@ pub struct Sync {
     pub seat: u8,
     pub start: u32,
     pub previous: u32,
+}
+
+// A high mark of an office's file: no number above it has left the office. One that is written has one number twice.
+pub struct High {
+    pub number: u32,
+    pub again: u32,
 }
 
 // What a mark calls for: the records that reach the server, and any other.

@@ -6,12 +6,13 @@ use native.Mathlib.Omega.{arith}
 use lib.ListN.{length, take, drop, length-append, length-drop}
 use lib.Seq.{take-all, take-append-le, drop-append-le, drop-drop}
 use Rattle.records.specs.Layout.{syncLength}
+use Rattle.laws.specs.Lists.{pieces}
 use Rattle.sheet.specs.Sheet.{recordsIn, recordsOn}
 
 -- m records, and n from there on
 pub records-split : (m n : ℕ) (s : List ℕ)
     → recordsIn (m + n) s ≡ recordsIn m s ++ recordsIn n (drop (m * syncLength) s)
-unfolding recordsIn
+unfolding pieces
 records-split zero n s = let z : 0 + n ≡ n = omega arith in rw z
 records-split (suc m) n s =
     let z : suc m + n ≡ suc (m + n) = omega arith in
@@ -21,12 +22,12 @@ records-split (suc m) n s =
 
 pub records-next : (n : ℕ) (s : List ℕ)
     → recordsIn (n + 1) s ≡ recordsIn n s ++ (take syncLength (drop (n * syncLength) s) ∷ [])
-unfolding recordsIn
+unfolding pieces
 records-next n s = records-split n 1 s
 
 records-join : (m n : ℕ) (a b : List ℕ) → length a ≡ m * syncLength
     → recordsIn (m + n) (a ++ b) ≡ recordsIn m a ++ recordsIn n b
-unfolding recordsIn
+unfolding pieces
 records-join zero n [] b e = let z : 0 + n ≡ n = omega arith in rw z
 records-join zero n (x ∷ a) b e = absurd (omega arith)
 records-join (suc m) n a b e =
@@ -44,5 +45,5 @@ on-join m a b e =
 
 -- a sheet with a record in front
 pub on-front : (r b : List ℕ) → length r ≡ syncLength → recordsOn (r ++ b) ≡ r ∷ recordsOn b
-unfolding recordsIn
+unfolding pieces
 on-front r b e = on-join 1 r b (omega arith) ∙ rw (take-all syncLength r (omega arith))

@@ -6,6 +6,7 @@ use lib.ListN.{take, replicate}
 use Rattle.laws.specs.Big.{bytesAll}
 use Rattle.laws.specs.Bit.{bit}
 use Rattle.laws.specs.Fin.{anyb}
+use Rattle.laws.specs.Lists.{pieces}
 use Rattle.laws.specs.Lowest.{lowestBelow}
 use Rattle.laws.specs.Tab.{tab}
 use Rattle.seats.specs.Seats.{has, containsOf}
@@ -15,14 +16,14 @@ use Rattle.records.specs.Layout.{encodeNotice, encodeView, encodeSync, decodeVi
 use Rattle.records.specs.Layout.{checkOwn}
 use Rattle.sheet.specs.declared.Along.{Along}
 use Rattle.sheet.specs.declared.Along.the-variants as answers
-use Rattle.sheet.specs.Sheet.{recordsIn, counts, recordFor, lacksRecord, namesSame, answerFrom, askedAbove}
+use Rattle.sheet.specs.Sheet.{counts, recordFor, lacksRecord, namesSame, answerFrom, askedAbove}
 use Rattle.sheet.specs.Sheet.{noSheet, askChecks, syncChecks, firstBad, alongChecks, cameAlong}
 
 -- the answer; to unfold it is to unfold the definitions
 unfoldable pub answering : List ℕ → List ℕ → ℕ → Along
 unfolding bytesAll bit anyb lowestBelow tab has containsOf officeOf serves packed encodeNotice encodeView encodeSync
     decodeView decodeSync markOf checkFor
-    checkOwn recordsIn counts recordFor lacksRecord namesSame answerFrom askedAbove noSheet askChecks syncChecks
+    checkOwn pieces counts recordFor lacksRecord namesSame answerFrom askedAbove noSheet askChecks syncChecks
     firstBad alongChecks cameAlong
 answering sheet view previous = cameAlong sheet view previous
 

@@ -3,10 +3,11 @@
 use mathlib.Core.Bool.{Bool, true, false, _&&_, _||_, not}
 use mathlib.Core.List.{List, [], _∷_, map}
 use mathlib.Core.Option.{Option, none, some}
-use Prim.Native.Nat.{ℕ, zero, suc, _+_, _*_, _/_, _%_}
-use lib.ListN.{length, take, drop}
+use Prim.Native.Nat.{ℕ, _+_, _*_, _/_, _%_}
+use lib.ListN.{length}
 use lib.Dec.{eqb, ltb, leb}
 use Rattle.laws.specs.Checks.{Check, numbered, firstOf}
+use Rattle.laws.specs.Lists.{pieces}
 use Rattle.laws.specs.Lowest.{lowestBelow}
 use Rattle.laws.specs.Upd.{ifb}
 use Rattle.seats.specs.Seats.{seatCount, containsOf}
@@ -29,9 +30,8 @@ abbrev pub sheetLimit : ℕ
 sheetLimit = sheetRecords * syncLength
 
 -- its first n records, and all of them
-unfoldable pub recordsIn : ℕ → List ℕ → List (List ℕ)
-recordsIn zero sheet = []
-recordsIn (suc n) sheet = take syncLength sheet ∷ recordsIn n (drop syncLength sheet)
+abbrev pub recordsIn : ℕ → List ℕ → List (List ℕ)
+recordsIn = pieces syncLength
 
 abbrev pub recordsOn : List ℕ → List (List ℕ)
 recordsOn sheet = recordsIn (length sheet / syncLength) sheet
