@@ -27,7 +27,8 @@ uint16_t room_offices(uint64_t set);
 /* How many offices have a seat in the set: 0 to 16, the number of ones in what room_offices answers for it. */
 uint8_t room_office_count(uint64_t set);
 
-/* The words of a state. Their places are in docs/LAYOUT.md; a program need not know them, and may store and copy the words. */
+/* The words of a state. Their places are in docs/LAYOUT.md; a program need not know them, and may store and copy the words.
+ * Stored words are no way to begin again once records have left behind them: numbers would leave twice. See room_restart. */
 #define ROOM_STATE_WORDS 425
 
 /* Makes the fresh state of an office in `state`, over any words.
@@ -121,6 +122,50 @@ size_t room_seat_sync(const uint32_t *desk, size_t words, uint8_t *out, size_t r
  * *members is not touched unless the answer is 0. The sheet and the view are only read. */
 uint32_t room_came_along(const uint8_t *sheet, size_t sheet_length, const uint8_t *view, size_t view_length, uint32_t previous,
                          uint64_t *members);
+
+/* A high mark, which an office keeps in a file so that it gives no number out twice where its server loses its
+ * current: 48 4D, a four-byte number, most significant byte first, and the same number again. The longest file has
+ * 2,001 of them. */
+#define ROOM_MARK_BYTES 10
+#define ROOM_FILE_BYTES 20010
+
+/* Makes the state with which an office begins again, from its file of high marks, over any words: fresh, with proposal
+ * number, start number and view number at the file's last whole mark, or at 0 where it has none. L is 2,000,000,000.
+ *   1   the office is above 15
+ *   18  `length` is above ROOM_FILE_BYTES, or a whole record of the file is no such mark: it is not 48 4D and one
+ *       number twice, or the number is above L, or it is neither more than 1,000,000 above the one before it nor L
+ *       after a lower one (the first: not above 0)
+ *   2   none of these, and `words` is not ROOM_STATE_WORDS
+ *   0   the state is made
+ * The first that applies is returned. With 1 and 18 the fresh state of office 0 is made where `words` is
+ * ROOM_STATE_WORDS. Where `words` is not ROOM_STATE_WORDS no word is touched. Up to 9 bytes behind the last whole
+ * record are not looked at; they count in `length`. The file is only read. An office that begins at L answers 13 to all
+ * that would make a number. */
+uint8_t room_restart(uint8_t office, const uint8_t *file, size_t length, uint32_t *state, size_t words);
+
+/* The last whole mark of a file. The answer is 256 x its number + the refusal or 0:
+ *   answer % 256  18 as for room_restart, or 0
+ *   answer / 256  the number of the last whole mark; 0 where there is none, and with the refusal
+ * The next mark belongs at byte 10 x (length / 10) of the file, over an unfinished one. The file is only read. */
+uint64_t room_last_mark(const uint8_t *file, size_t length);
+
+/* What must happen before the first record of `rest` may leave: a start notice, a proposal or a view as room_step
+ * wrote it, with anything behind it. `last` is the number of the last mark in the file, 0 where there is none.
+ *   answer % 256        3  `capacity` is under ROOM_MARK_BYTES
+ *                       4  `rest` has under two bytes, or its mark is none of 53 43, 50 52 and 56 57
+ *                       5  it has fewer bytes than its mark's length
+ *                       8  `last` or a four-byte number of the record is above L
+ *                       0  none of these; the first that applies is returned
+ *   answer / 256 % 256  the record's length: 14, 84 or 78; 0 with a refusal
+ *   answer / 65536      the last mark once the record may leave; 0 with a refusal. Where it is `last`, nothing is to
+ *                       be written. Where it is higher, `out` begins with that mark: put its 10 bytes into the file
+ *                       behind the last whole mark, see them on the disk, then send the record. Where that fails the
+ *                       record must not leave, and the office must begin again.
+ * Then go on behind the record's length, with that mark as `last`: a mark may be due before each record of an answer.
+ * A mark is due where one of the record's four-byte numbers (used numbers and other offices' start numbers too) is
+ * above `last`; it is the largest of them plus 1,000,000, or L if that is less. No byte of `out` is touched unless a
+ * mark is due, and then only the first 10. */
+uint64_t room_mark_before(uint32_t last, const uint8_t *rest, size_t length, uint8_t *out, size_t capacity);
 
 #ifdef __cplusplus
 }

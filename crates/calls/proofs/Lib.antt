@@ -2,3 +2,5 @@
 mod Called
 -- seat
 pub mod InSeatWords
+-- restarts
+mod RestartNumbers

@@ -8,3 +8,5 @@ pub mod WaitingCalls
 pub mod SeatWords
 -- along
 pub mod AlongWord
+-- restarts
+pub mod RestartCalls

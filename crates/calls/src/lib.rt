@@ -17,3 +17,6 @@ mod seat;
 
 // Who came along from the old view.
 mod along;
+
+// An office that may lose its current.
+mod restarts;

@@ -3,10 +3,10 @@ use mathlib.Core.List.{List}
 use Prim.Native.Nat.{ℕ}
 use Rattle.rules.specs.State.{State}
 use Rattle.runs.specs.World.{Item, WorldEvent}
-use Rattle.settling.specs.Statement.{Settles}
+use Rattle.settling.specs.Statement.{SettlesUncut}
 use Rattle.claims.specs.Demand1.{Demand1}
 use Rattle.claims.specs.Demand2.{Demand2}
-use Rattle.claims.specs.Requests.{Request1, Request2, Request3, Request4, Request5, Request6}
+use Rattle.claims.specs.Requests.{Request1, Request2, Request3, Request4, Request5, Request6, Request7}
 
 pub record Claims : Type 0 where
   -- Demand 1. Every record, state and buffer is taken; what is refused has one number, and changes nothing.
@@ -15,7 +15,7 @@ pub record Claims : Type 0 where
   pub demand2 : Demand2
   -- Demand 3. It settles.
   pub settling : (A : ℕ) (states : ℕ → State) (links : ℕ → ℕ → List Item) (es : List WorldEvent)
-      → Settles A states links es
+      → SettlesUncut A states links es
   -- Request 1. Who are we waiting for?
   pub request1 : Request1
   -- Request 2. Reports that change nothing.
@@ -28,3 +28,5 @@ pub record Claims : Type 0 where
   pub request5 : Request5
   -- Request 6. Offices with their count.
   pub request6 : Request6
+  -- Request 7. A server that loses its current.
+  pub request7 : Request7

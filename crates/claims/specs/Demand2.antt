@@ -18,11 +18,12 @@ use Rattle.records.specs.declared.Proposal.{Proposal}
 use Rattle.records.specs.declared.Notice.{Notice}
 use Rattle.records.specs.declared.View.{View}
 use Rattle.records.specs.declared.Sync.{Sync}
-use Rattle.records.specs.Fits.{FitsReport, FitsProposal, FitsNotice, FitsView, FitsSync}
-use Rattle.records.specs.Layout.{encodeReport, encodeProposal, encodeNotice, encodeView, encodeSync, checkOwn}
-use Rattle.records.specs.Layout.{decodeReport, decodeProposal, decodeNotice, decodeView, decodeSync}
-use Rattle.records.specs.Layout.{reportMark, proposalMark, noticeMark, viewMark, syncMark}
-use Rattle.records.specs.Layout.{reportLength, proposalLength, noticeLength, viewLength, syncLength}
+use Rattle.records.specs.declared.High.{High}
+use Rattle.records.specs.Fits.{FitsReport, FitsProposal, FitsNotice, FitsView, FitsSync, FitsHigh}
+use Rattle.records.specs.Layout.{encodeReport, encodeProposal, encodeNotice, encodeView, encodeSync, encodeHigh}
+use Rattle.records.specs.Layout.{checkOwn, decodeReport, decodeProposal, decodeNotice, decodeView, decodeSync}
+use Rattle.records.specs.Layout.{decodeHigh, reportMark, proposalMark, noticeMark, viewMark, syncMark, highMark}
+use Rattle.records.specs.Layout.{reportLength, proposalLength, noticeLength, viewLength, syncLength, highLength}
 use Rattle.rules.specs.State.{Fast, State, zeros, keeping, storedAt, acceptedAt, usedAt}
 use Rattle.rules.specs.Rules.{view, fresh, netAfter, withNet, repeats, seated, opened, proposesFast, received}
 use Rattle.rules.specs.Rules.{slowCalled, reportRule, proposalRule}
@@ -113,6 +114,7 @@ pub record Layout : Type 0 where
   pub notice-back : (n : Notice) → FitsNotice n → decodeNotice (encodeNotice n) ≡ n
   pub view-back : (v : View) → FitsView v → decodeView (encodeView v) ≡ v
   pub sync-back : (r : Sync) → FitsSync r → decodeSync (encodeSync r) ≡ r
+  pub high-back : (h : High) → FitsHigh h → decodeHigh (encodeHigh h) ≡ h
   -- and bytes of its mark and length come back from their value.
   pub report-again : (b : List ℕ) → Below 256 b → checkOwn reportMark reportLength b ≡ 0
       → encodeReport (decodeReport b) ≡ b
@@ -124,6 +126,8 @@ pub record Layout : Type 0 where
       → encodeView (decodeView b) ≡ b
   pub sync-again : (b : List ℕ) → Below 256 b → checkOwn syncMark syncLength b ≡ 0
       → encodeSync (decodeSync b) ≡ b
+  pub high-again : (b : List ℕ) → Below 256 b → checkOwn highMark highLength b ≡ 0
+      → encodeHigh (decodeHigh b) ≡ b
 
 -- Sets of seats.
 pub record Sets : Type 0 where

@@ -14,7 +14,9 @@ use Rattle.laws.specs.Upd.{ifb}
 use Rattle.seats.specs.Seats.{seatCount}
 use Rattle.seats.specs.Offices.{officeOf, serves, officesOf, countOf, lowestOf}
 use Rattle.records.specs.Fits.{FitsReport}
-use Rattle.records.specs.Layout.{viewMark, viewLength, syncLength, checkOf, checkOwn, decodeView, decodeSync}
+use Rattle.records.specs.Numbers.{limit}
+use Rattle.records.specs.Layout.{viewMark, viewLength, syncLength, highLength, checkOf, checkOwn}
+use Rattle.records.specs.Layout.{decodeView, decodeSync}
 use Rattle.records.specs.declared.Report.{Report}
 use Rattle.records.specs.declared.Proposal.{Proposal}
 use Rattle.records.specs.declared.View.{View}
@@ -26,21 +28,32 @@ use Rattle.sheet.specs.Answers.{GoodRecord, Tells}
 use Rattle.sheet.specs.Days.{computedAnswers, statedAnswers, computedRefusals, statedRefusals}
 use Rattle.sheet.specs.Days.{computedFull, statedFull}
 use Rattle.rules.specs.State.{State, zeros}
-use Rattle.rules.specs.Rules.{Written, view, nothingWritten, fresh, hasRecipient, repeats, viewOf, reportRule}
-use Rattle.rules.specs.Refusals.{wellFormed, fullRoom, aReport, eventOf, stepOf, bytesOf, accepted}
+use Rattle.rules.specs.Rules.{Written, view, nothingWritten, fresh, restarted, hasRecipient, repeats, viewOf}
+use Rattle.rules.specs.Rules.{reportRule}
+use Rattle.rules.specs.MarkFile.{fileLimit, allHigh, lastOf, lastHigh, goodFile}
+use Rattle.rules.specs.Refusals.{wellFormed, fullRoom, aReport, eventOf, stepOf, bytesOf, allBytes, accepted}
+use Rattle.rules.specs.Refusals.{restartOf}
 use Rattle.waiting.specs.declared.Waiting.the-variants as waits
 use Rattle.waiting.specs.Waiting.{waitingFor, waitingForOfAll}
 use Rattle.waiting.specs.Days.{answersComputed, answersStated}
 use Rattle.waiting.proofs.Laws.{Means}
-use Rattle.runs.specs.Office.{Input, stateAfter, logOf, sentIn}
+use Rattle.runs.specs.Office.{Input, stateAfter, logOf, sentIn, leftOver, TurnsAbove, NumbersOnce}
+use Rattle.runs.specs.World.{Item, WorldEvent, atFirst}
+use Rattle.runs.specs.Begins.{RestartsAbove}
+use Rattle.runs.specs.Files.{FileTurn, FileEvent, freshKept, keptAfter, leftKept, beginsWith, turnsOf}
 use Rattle.desk_runs.specs.Sent.{OfSeats, sentTo, hearings}
 use Rattle.desk_runs.specs.Syncs.{syncAfter, SyncFor}
 use Rattle.desk_runs.specs.Days.{computedDay, statedDay, seatRefusals, seatReasons}
-use Rattle.row.specs.Row.{Row, stateOf, word}
+use Rattle.settling.specs.Statement.{Settles, SettlesAfterCuts, SettlesWithFiles}
+use Rattle.row.specs.Row.{rowLength, Row, stateOf, wordsOf, word}
 use Rattle.row.proofs.Holds.{Holds}
 use Rattle.agree.specs.Starts.{laidOf}
+use Rattle.step.specs.Fresh.{freshRow}
 use Rattle.step.specs.Step.{stepRow}
 use Rattle.code_runs.specs.Rows.{Handed, rowSent}
+use Rattle.code_runs.specs.Kept.{RowTurn, bytesIn, rowLeft, readTurn}
+use Rattle.restart.specs.Restart.{restartRow}
+use Rattle.restart.specs.Caller.{callerMoves, MovesAs}
 
 -- Request 1. Who are we waiting for?
 pub record Request1 : Type 0 where
@@ -137,3 +150,60 @@ pub record Request6 : Type 0 where
   -- A proposal has a recipient where the count is above 1.
   pub recipient-count : (p : Proposal) → p .sender < 16 → serves (p .members .bits) (p .sender) ≡ true
       → hasRecipient p ≡ ltb 1 (countOf (p .members .bits))
+
+-- Request 7. A server that loses its current.
+pub record Request7 : Type 0 where
+  -- Such marks are at most 2,001, and at most 2,000 while the last is not L.
+  pub marks-count : (bs : List (List ℕ)) → allHigh 0 bs ≡ true
+      → (length bs ≤ 2_001) × ((lastOf 0 bs ≡ limit → ⊥) → length bs ≤ 2_000)
+  -- From a fresh office and an empty file, cut off after any byte written to it or any record that left: an office
+  -- always begins again at or above every number that left, and not above L;
+  pub begins-above : (own : ℕ) → own < 16 → (ts : List FileTurn) → let us = turnsOf (freshKept own) ts in
+      (leftKept (freshKept own) ts ≡ leftOver (fresh own) us) × TurnsAbove (fresh own) [] us
+  -- so no number is sent twice as a proposal number, none twice in a start notice, and no view number is at or below
+  -- an earlier one;
+  pub numbers-once : (own : ℕ) → own < 16 → (ts : List FileTurn) → NumbersOnce (leftKept (freshKept own) ts)
+  -- its own file is never refused by 18,
+  pub own-file : (own : ℕ) → own < 16 → (ts : List FileTurn) → let f = keptAfter (freshKept own) ts .file in
+      restartOf own f ≡ record { refusal = 0; state = restarted own (lastHigh f) }
+  -- and never passes 20,010 bytes.
+  pub own-length : (own : ℕ) → own < 16 → (ts : List FileTurn)
+      → length (keptAfter (freshKept own) ts .file) ≤ fileLimit
+  -- A seat that was fresh at first accepts all that leaves for it, over every restart of its office.
+  pub desk-accepts-again : (seat : ℕ) → seat < seatCount → (ts : List FileTurn)
+      → Every (λ t. OfSeats (beginsWith t .event)) ts
+      → Every (λ h. h .refusal ≡ 0)
+      (hearings (freshDesk seat) (sentTo seat (leftKept (freshKept (officeOf seat)) ts)))
+  -- It settles, the k files empty at first, with cuts after any byte and any record: by the request's own premise,
+  -- and where every last report comes after every cut.
+  pub settling-with-files : (A : ℕ) (states : ℕ → State) (links : ℕ → ℕ → List Item) (files : ℕ → List ℕ)
+      (fs : List FileEvent) → SettlesWithFiles A states links files fs
+  -- The same where an office begins again at any number at or above what left, whatever keeps that number.
+  pub settling-above : (A : ℕ) (states : ℕ → State) (links : ℕ → ℕ → List Item) (es : List WorldEvent)
+      → RestartsAbove (serves A) (atFirst states links) es
+      → Settles A states links es × SettlesAfterCuts A states links es
+  -- The words of a state made again hold it, every one;
+  pub restart-row : (office : ℕ) (f ws : List ℕ) → length ws ≡ rowLength
+      → Holds (restartRow office f ws .words) (restartOf office f .state)
+  -- 1 and 18 give back what 1 gives;
+  pub restart-refused : (office : ℕ) (f ws : List ℕ) → (restartRow office f ws .refusal ≡ 0 → ⊥)
+      → length ws ≡ rowLength → restartRow office f ws .words ≡ wordsOf (fresh 0)
+  -- words of another length stay;
+  pub restart-other : (office : ℕ) (f ws : List ℕ) → (length ws ≡ rowLength → ⊥)
+      → restartRow office f ws .words ≡ ws
+  -- an empty file starts fresh.
+  pub restart-empty : (office : ℕ) (ws : List ℕ) → restartRow office [] ws ≡ freshRow office ws
+  -- Who asks before each record of an answer, whatever the step was handed, does just what the theorems speak of: a
+  -- cut after any byte or record leaves that file, and those records have left.
+  pub caller-leaves : (f : List ℕ) → goodFile f ≡ true → (out : List ℕ) → highLength ≤ length out
+      → (s : State) (b : List ℕ) (room : ℕ) → let ws = stepOf s b room .written in
+      MovesAs f ws (callerMoves f out (allBytes ws))
+  -- So of an office on words with its file, handed any bytes, lent any output for marks and cut off after any byte
+  -- written or record sent: the bytes that leave are those of records that give out no number twice,
+  pub code-numbers-once : (own : ℕ) → own < 16 → (out : List ℕ) → highLength ≤ length out → (ws : List ℕ)
+      → Holds ws (fresh own) → (ts : List RowTurn) → let l = leftKept (freshKept own) (map readTurn ts) in
+      (rowLeft own out (record { words = ws; file = [] }) ts ≡ map bytesOf l) × NumbersOnce l
+  -- which a seat that was not restarted accepts.
+  pub code-heard-again : (seat : ℕ) → seat < seatCount → (ts : List RowTurn)
+      → Every (λ t. Below 256 (bytesIn t)) ts → let l = leftKept (freshKept (officeOf seat)) (map readTurn ts) in
+      Every (λ h. h .refusal ≡ 0) (hearings (freshDesk seat) (sentTo seat l))

@@ -23,11 +23,11 @@ use Rattle.step.proofs.Holds.{step-holds}
 use Rattle.code_runs.specs.Rows.{Handed, rowAnswer, rowAfter, rowSent, inputsOf}
 
 module _ (ws : List ℕ) (h : Handed) (r : Row ws) where
-  held : Row (rowAnswer ws h .words)
+  pub held : Row (rowAnswer ws h .words)
       × (stateOf (rowAnswer ws h .words) ≡ stepOf (stateOf ws) (h .bytes) (h .room) .state)
   held = step-holds ws (h .bytes) (h .room) r
 
-  wrote : rowAnswer ws h .written ≡ stepOf (stateOf ws) (h .bytes) (h .room) .written
+  pub wrote : rowAnswer ws h .written ≡ stepOf (stateOf ws) (h .bytes) (h .room) .written
   wrote = ap (λ (q : RowResult). q .written) (on-row ws (h .bytes) (h .room) (is-row ws r))
 
   -- a view that the code sends is of the net view that the words hold then

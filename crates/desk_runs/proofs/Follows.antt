@@ -21,10 +21,10 @@ use Rattle.records.specs.Fits.{FitsReport, FitsView}
 use Rattle.records.specs.declared.Report.{Report}
 use Rattle.records.specs.declared.Proposal.{Proposal}
 use Rattle.rules.specs.State.{Mode, None, Fast, Slow, Slot, State, keeping, storedAt}
-use Rattle.rules.specs.Rules.{Written, Outcome, nothingWritten, andThen, inSlot, netAfter, withNet, seated, opened}
-use Rattle.rules.specs.Rules.{noticeOf, opens, nextNumber, ownProposal, proposed, hasRecipient, proposesFast, received}
-use Rattle.rules.specs.Rules.{beginsIn, slowNumber, proposesSlow, agreed, startOf, viewOf, concluded, reportRule}
-use Rattle.rules.specs.Rules.{proposalRule}
+use Rattle.rules.specs.Rules.{Written, notice, view, Outcome, nothingWritten, andThen, inSlot, netAfter, withNet}
+use Rattle.rules.specs.Rules.{seated, opened, noticeOf, opens, nextNumber, ownProposal, proposed, hasRecipient}
+use Rattle.rules.specs.Rules.{proposesFast, received, beginsIn, slowNumber, proposesSlow, agreed, startOf, viewOf}
+use Rattle.rules.specs.Rules.{concluded, reportRule, proposalRule}
 use Rattle.rules.specs.Refusals.{Event, aReport, aProposal, wellFormed, refusalOf, ruleOf}
 use Rattle.rule_laws.proofs.Parts.{Reads, proposed-reads, received-reads, concluded-reads, made-is}
 use Rattle.rule_laws.proofs.Tests.{agreed-out}
@@ -136,9 +136,10 @@ module _ (seat : ℕ) (lt : seat < seatCount) where
       }
       go true m = record {
         then = afterRecord d (aNotice (noticeOf (opened s)));
-        told = accepts m
+        told = accepts {w = notice (noticeOf (opened s))} m
             (notice-heard d sound (noticeOf (opened s)) (record { start = omega arith; members = b .fits })
-            (record { within = low; member = rw (b .is-seat) m; above = rises .0; reaches = rises .1 })) at-end;
+            (record { within = low; member = rw (b .is-seat) m; above = rises .0; reaches = rises .1 }))
+            (record { seat = refl; start = omega arith; view = omega arith }) at-end;
         holds = opens-at (afterRecord d (aNotice (noticeOf (opened s)))) (b .is-seat) (omega arith) (b .view)
             (λ y. (refl, refl));
       }
@@ -268,7 +269,8 @@ module _ (seat : ℕ) (lt : seat < seatCount) where
       unfolding concluded viewOf afterRecord
       heard = record {
         then = afterRecord d (aView (viewOf s));
-        told = accepts m (view-heard d sound (viewOf s) fits takes) at-end;
+        told = accepts {w = view (viewOf s)} m (view-heard d sound (viewOf s) fits takes)
+            (record { seat = refl; start = omega arith; view = omega arith }) at-end;
         holds = settled (afterRecord d (aView (viewOf s)))
             (record {
               is-seat = b .is-seat;

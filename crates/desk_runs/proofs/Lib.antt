@@ -3,3 +3,4 @@ pub mod Follows
 pub mod Runs
 mod Taking
 pub mod Syncs
+pub mod Turns

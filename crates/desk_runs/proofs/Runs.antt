@@ -41,7 +41,7 @@ module _ (seat : ℕ) (lt : seat < seatCount) where
   sets-fit (aProposal p) h = tt
 
   -- what an answer sends, accepted or not
-  next-heard : (d : Desk) (s : State) (h : Input) → OfSeats (h .event) → Follows seat lt d s
+  pub next-heard : (d : Desk) (s : State) (h : Input) → OfSeats (h .event) → Follows seat lt d s
       → Beside-it d (answerTo s h .written) (nextState s h)
   unfolding answerTo
   next-heard d s h y f = go (take-cases s (h .event) (h .room))
@@ -63,7 +63,7 @@ module _ (seat : ℕ) (lt : seat < seatCount) where
       (λ h. OfSeats (h .event)) next-heard
 
   -- a fresh seat follows a fresh office
-  fresh-follows : Follows seat lt (freshDesk seat) (fresh (officeOf seat))
+  pub fresh-follows : Follows seat lt (freshDesk seat) (fresh (officeOf seat))
   unfolding freshDesk
   fresh-follows =
       let r = fresh-reads (officeOf seat) in

@@ -16,3 +16,6 @@ pub mod Sizes
 pub mod Exits
 pub mod Checking
 pub mod Shapes
+pub mod MarkFile
+pub mod MarkCount
+pub mod Leaving

@@ -15,10 +15,10 @@ use Rattle.records.specs.declared.Notice.{Notice}
 use Rattle.records.specs.declared.View.{View}
 use Rattle.records.specs.declared.Proposal.{Proposal}
 use Rattle.rules.specs.State.{Fast, State, storedAt, acceptedAt, numberIn}
-use Rattle.rules.specs.Refusals.{Event, aReport, aProposal, eventOf, refusalOf, ruleOf, stepOf}
+use Rattle.rules.specs.Refusals.{Event, aReport, aProposal, refusalOf, ruleOf, takeOf, stepOf}
 use Rattle.rule_laws.proofs.Tests.{next-above, slow-above}
 use Rattle.rule_laws.proofs.Walk.{arrived, concludes, Walk, walk-event}
-use Rattle.rule_laws.proofs.Steps.{check-facts, Refused, Accepts, step-cases, step-accepts}
+use Rattle.rule_laws.proofs.Steps.{check-facts, Refused, Takes, take-cases, take-accepts, step-by}
 use Rattle.rules.specs.Rules.{Written, notice, proposal, view, Outcome, nothingWritten, andThen, withNet, opened}
 use Rattle.rules.specs.Rules.{opens, nextNumber, ownProposal, proposed, hasRecipient, proposesFast, received}
 use Rattle.rules.specs.Rules.{proposesSlow, agreed, concluded}
@@ -139,9 +139,16 @@ event-rises s (aProposal p) z =
           (le-of-lt (check-facts s p z .above)) (λ n. le-refl _));
     }
 
-pub step-rises : (s : State) (b : List ℕ) (room : ℕ) → Rises s (stepOf s b room .written) (stepOf s b room .state)
-step-rises s b room = go (step-cases s b room)
+rises-none : (s : State) → Rises s [] s
+rises-none s = record { start = le-refl _; numbers = at-end (le-refl _); accepted = λ o l. le-refl _ }
+
+-- of an event taken or not, and of a step
+pub take-rises : (s : State) (e : Event) (room : ℕ) → Rises s (takeOf s e room .written) (takeOf s e room .state)
+take-rises s e room = go (take-cases s e room)
   where
-    go : Refused s (stepOf s b room) ⊎ Accepts s b room → Rises s (stepOf s b room .written) (stepOf s b room .state)
-    go (inl r) = rw (r .is) (record { start = le-refl _; numbers = at-end (le-refl _); accepted = λ o l. le-refl _ })
-    go (inr a) = rw (step-accepts s b room a) (event-rises s (eventOf b) (a .acts .passes))
+    go : Refused s (takeOf s e room) ⊎ Takes s e room → Rises s (takeOf s e room .written) (takeOf s e room .state)
+    go (inl r) = rw (r .is) (rises-none s)
+    go (inr a) = rw (take-accepts s e room a) (event-rises s e (a .acts .passes))
+
+pub step-rises : (s : State) (b : List ℕ) (room : ℕ) → Rises s (stepOf s b room .written) (stepOf s b room .state)
+step-rises s b room = step-by s b room (Rises s) (rises-none s) (λ e. take-rises s e room)

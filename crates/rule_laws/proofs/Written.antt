@@ -20,9 +20,9 @@ use Rattle.rules.specs.Rules.{Written, notice, proposal, view, Outcome, andThen
 use Rattle.rules.specs.Rules.{ownProposal, proposed, hasRecipient, proposesFast, slowNumber, proposesSlow, agreed}
 use Rattle.rules.specs.Rules.{startOf, viewOf, concluded}
 use Rattle.records.specs.Numbers.{limit}
-use Rattle.rules.specs.Refusals.{Event, eventOf, ruleOf, stepOf}
+use Rattle.rules.specs.Refusals.{Event, ruleOf, takeOf, stepOf}
 use Rattle.rule_laws.proofs.Tests.{agreed-out, next-above, slow-above}
-use Rattle.rule_laws.proofs.Steps.{SlotWithin, Refused, Accepts, well-facts, step-cases, step-accepts}
+use Rattle.rule_laws.proofs.Steps.{SlotWithin, Refused, Takes, well-facts, take-cases, take-accepts, step-by}
 use Rattle.rule_laws.proofs.Walk.{concludes, Walk, walk-event}
 use Rattle.rule_laws.proofs.Ceiling.{Copied, MadeWithin, Copies, copying, copies-then, made-within, view-starts}
 use Rattle.rule_laws.proofs.Ceiling.{arrived-copied, well-copied, accepted-fits}
@@ -46,15 +46,18 @@ every-then : {R : Written → Type 0} (s : State) (o : Outcome) (f : State → O
 unfolding andThen
 every-then s o f a b = every-append a b
 
--- what holds of no records and of those of each event holds of those of a step
-of-step : (S : List Written → Type 0) → S [] → ((s : State) (e : Event) → S (ruleOf s e .written))
-    → (s : State) (b : List ℕ) (room : ℕ)
-    → S (stepOf s b room .written)
-of-step S z h s b room = go (step-cases s b room)
-  where
-    go : Refused s (stepOf s b room) ⊎ Accepts s b room → S (stepOf s b room .written)
-    go (inl r) = rw (r .is) z
-    go (inr a) = rw (step-accepts s b room a) (h s (eventOf b))
+-- what holds of no records and of those of each event holds of those of an event taken or not, and of those of a step
+module _ (S : List Written → Type 0) (z : S []) (h : (s : State) (e : Event) → S (ruleOf s e .written))
+    (s : State) where
+  of-take : (e : Event) (room : ℕ) → S (takeOf s e room .written)
+  of-take e room = go (take-cases s e room)
+    where
+      go : Refused s (takeOf s e room) ⊎ Takes s e room → S (takeOf s e room .written)
+      go (inl r) = rw (r .is) z
+      go (inr a) = rw (take-accepts s e room a) (h s e)
+
+  of-step : (b : List ℕ) (room : ℕ) → S (stepOf s b room .written)
+  of-step b room = step-by s b room (λ ws t. S ws) z (λ e. of-take e room)
 
 module _ {R : Written → Type 0} (each : EachMade R) where
   writing : Walk (λ s o. Every R (o .written)) (λ s o. Every R (o .written))
@@ -206,16 +209,18 @@ writing-within = record {
   finish = writes-last;
 }
 
--- every record that a step writes
-pub records-within : (s : State) (b : List ℕ) (room : ℕ) → Every RecordWithin (stepOf s b room .written)
-records-within s b room = go (step-cases s b room)
+-- every record that an event taken writes, and every one that a step writes
+pub take-within : (s : State) (e : Event) (room : ℕ) → Every RecordWithin (takeOf s e room .written)
+take-within s e room = go (take-cases s e room)
   where
-    go : Refused s (stepOf s b room) ⊎ Accepts s b room → Every RecordWithin (stepOf s b room .written)
+    go : Refused s (takeOf s e room) ⊎ Takes s e room → Every RecordWithin (takeOf s e room .written)
     go (inl r) = rw (r .is) none
     go (inr a) =
-        let e = eventOf b in
         let f = well-facts _ (a .acts .within) in
-        rw (step-accepts s b room a)
+        rw (take-accepts s e room a)
         (walk-event writing-within s e .within
         (arrived-copied s e (accepted-fits s e (a .acts .passes)) (well-copied s (a .well)))
         (record { start = f .start; number = f .number; view = f .view }))
+
+pub records-within : (s : State) (b : List ℕ) (room : ℕ) → Every RecordWithin (stepOf s b room .written)
+records-within s b room = step-by s b room (λ ws t. Every RecordWithin ws) none (λ e. take-within s e room)

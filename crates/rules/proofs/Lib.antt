@@ -1,2 +1,4 @@
 pub mod Days
 pub mod Room
+pub mod MarkFiles
+pub mod Restarts

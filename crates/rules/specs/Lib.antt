@@ -1,5 +1,7 @@
 pub mod State
 pub mod Rules
+pub mod MarkFile
 pub mod Refusals
+pub mod Leaving
 pub mod Bounds
 pub mod Days

@@ -11,10 +11,12 @@ use Rattle.seats.specs.Offices.{serves}
 use Rattle.records.specs.Numbers.{limit, within, aboveLimit, strayNumber}
 use Rattle.records.specs.Layout.{reportMark, noticeLength, proposalLength, valueOf, checkOf, markOf}
 use Rattle.records.specs.Layout.{decodeReport, decodeProposal, encodeProposal, encodeNotice, encodeView}
+use Rattle.rules.specs.MarkFile.{lastHigh, goodFile}
 use Rattle.records.specs.declared.Report.{Report}
 use Rattle.records.specs.declared.Proposal.{Proposal}
 use Rattle.rules.specs.State.{Slot, State, fast, slow, storedAt, acceptedAt, usedAt, usedFor}
-use Rattle.rules.specs.Rules.{Written, notice, proposal, view, Outcome, fresh, reportRule, proposalRule}
+use Rattle.rules.specs.Rules.{Written, notice, proposal, view, Outcome, fresh, restarted, reportRule}
+use Rattle.rules.specs.Rules.{proposalRule}
 
 -- the numbers of a stored proposal; an empty slot has none
 unfoldable pub slotWithin : Slot → Bool
@@ -36,6 +38,16 @@ pub record Made : Type 0 where
 
 unfoldable pub madeOf : ℕ → Made
 madeOf o = ifb (leb o 15) (record { refusal = 0; state = fresh o }) (record { refusal = 1; state = fresh 0 })
+
+-- 18, after 1, when a state is made again: the file is too long or a whole record is not such a mark; it gives back
+-- what 1 gives
+unfoldable pub restartChecks : ℕ → Bool → List Check
+restartChecks o good = record { number = 1; applies = ltb 15 o } ∷ record { number = 18; applies = not good } ∷ []
+
+unfoldable pub restartOf : ℕ → List ℕ → Made
+restartOf o f =
+    let n = firstOf (restartChecks o (goodFile f)) in
+    record { refusal = n; state = ifb (eqb n 0) (restarted o (lastHigh f)) (fresh 0) }
 
 -- the length of an output that every event has room in, 182: a start notice and two proposals
 abbrev pub fullRoom : ℕ

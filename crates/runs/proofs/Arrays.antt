@@ -13,12 +13,13 @@ use Rattle.laws.specs.Tab.{tab}
 use Rattle.seats.specs.Offices.{serves}
 use Rattle.records.specs.declared.Report.{Report}
 use Rattle.records.specs.declared.Proposal.{Proposal}
+use Rattle.records.specs.declared.Notice.{Notice}
 use Rattle.records.specs.declared.View.{View}
 use Rattle.rules.specs.State.{Mode, None, Fast, Slow, Slot, fast, slow, kindOf, nothing, keeping, usedFor, numberIn}
-use Rattle.rules.specs.Rules.{netAfter}
+use Rattle.rules.specs.Rules.{Written, notice, proposal, view, hasRecipient, netAfter}
 use Rattle.rules.specs.Refusals.{Result}
-use Rattle.runs.specs.World.{Item, SentView, World, WorldEvent, report, delivery, loss, without, reportAnswer}
-use Rattle.runs.specs.World.{Gives}
+use Rattle.runs.specs.World.{Item, SentView, World, Underway, begun-delivery, WorldEvent, report, delivery, loss}
+use Rattle.runs.specs.World.{cut, mail, without, reportAnswer, Gives}
 use Rattle.runs.specs.Begins.{InF, Rising}
 
 pub record Offices : Type 0 where
@@ -32,6 +33,8 @@ pub record Offices : Type 0 where
   pub shown : ℕ → List SentView  -- the views that it sent, latest first
   pub made : ℕ → Proposal  -- the last proposal that it made
   pub seen : ℕ → ℕ → ℕ  -- the start number of another that its last view counted
+  pub top : ℕ → ℕ  -- the largest number of a proposal that left it, cuts or not
+  pub got : ℕ → ℕ → ℕ  -- the last number that it accepted from another, cuts or not
 
 -- the proposals that p puts on the link to office j at time t
 abbrev pub mailTo : ℕ → Proposal → ℕ → List Item
@@ -51,6 +54,8 @@ renet g me x =
       shown = g .shown;
       made = g .made;
       seen = g .seen;
+      top = g .top;
+      got = g .got;
     }
 
 -- a proposal p is made in mode m at time t, stored as the own and put on the links
@@ -67,6 +72,8 @@ propose g me m p t =
       shown = g .shown;
       made = upd (g .made) me p;
       seen = g .seen;
+      top = upd (g .top) me (ifb (hasRecipient p) (p .number) (g .top me));
+      got = g .got;
     }
 
 -- the proposal p of office i arrives; l is what stays on the link
@@ -83,6 +90,8 @@ receive g me i p l =
       shown = g .shown;
       made = g .made;
       seen = g .seen;
+      top = g .top;
+      got = upd2 (g .got) me i (p .number);
     }
 
 -- the view of the set x with the start numbers f of its offices
@@ -109,6 +118,8 @@ conclude g me t =
           (record { view = viewWith (g .net me) (λ o. g .stored me o .proposal .start); sent = t } ∷ g .shown me);
       made = g .made;
       seen = upd (g .seen) me (λ o. g .stored me o .proposal .start);
+      top = g .top;
+      got = g .got;
     }
 
 -- the link from i to j becomes l
@@ -125,6 +136,40 @@ relink g i j l =
       shown = g .shown;
       made = g .made;
       seen = g .seen;
+      top = g .top;
+      got = g .got;
+    }
+
+-- the largest number that has left, after the records ws
+abbrev pub topAfter : List Written → ℕ → ℕ
+topAfter [] n = n
+topAfter (notice x ∷ ws) n = topAfter ws n
+topAfter (proposal p ∷ ws) n = topAfter ws (p .number)
+topAfter (view v ∷ ws) n = topAfter ws n
+
+-- the views of ws, sent at time t, on top of others
+abbrev pub shows : ℕ → List Written → List SentView → List SentView
+shows t [] vs = vs
+shows t (notice n ∷ ws) vs = shows t ws vs
+shows t (proposal p ∷ ws) vs = shows t ws vs
+shows t (view v ∷ ws) vs = shows t ws (record { view = v; sent = t } ∷ vs)
+
+-- office me begins again at m, when the records ws have left
+unfoldable pub restart : Offices → ℕ → ℕ → List Written → ℕ → Offices
+restart g me m ws t =
+    record {
+      num = upd (g .num) me m;
+      mode = upd (g .mode) me None;
+      net = upd (g .net) me 0;
+      stored = upd (g .stored) me (λ o. nothing);
+      acc = upd (g .acc) me (λ o. 0);
+      used = upd (g .used) me (λ o. 0);
+      link = upd (g .link) me (λ j. g .link me j ++ mail t j ws);
+      shown = upd (g .shown) me (shows t ws (g .shown me));
+      made = g .made;
+      seen = g .seen;
+      top = upd (g .top) me (topAfter ws (g .top me));
+      got = g .got;
     }
 
 -- office me stores a proposal of office o with the net view's members
@@ -141,6 +186,28 @@ pub record Proposes (g : Offices) (me kind : ℕ) (p : Proposal) : Type 0 where
   pub of-net : p .members .bits ≡ g .net me
   pub above : g .num me < p .number
   pub with-used : (o : ℕ) → o < 16 → usedFor p o ≡ ifb (serves (g .net me) o) (g .used me o) 0
+
+-- the numbers of the proposals among ws rise strictly, from above n
+pub data Climbs : ℕ → List Written → Type 0 where
+  climbs-none : {n : ℕ} → Climbs n []
+  climbs-notice : {n : ℕ} {x : Notice} {ws : List Written} → Climbs n ws → Climbs n (notice x ∷ ws)
+  climbs-view : {n : ℕ} {x : View} {ws : List Written} → Climbs n ws → Climbs n (view x ∷ ws)
+  climbs-proposal : {n : ℕ} {p : Proposal} {ws : List Written} → n < p .number → Climbs (p .number) ws
+      → Climbs n (proposal p ∷ ws)
+
+-- what a proposal among them tells is what the office has used
+pub data Tells (f : ℕ → ℕ) : List Written → Type 0 where
+  tells-none : Tells f []
+  tells-notice : {x : Notice} {ws : List Written} → Tells f ws → Tells f (notice x ∷ ws)
+  tells-view : {x : View} {ws : List Written} → Tells f ws → Tells f (view x ∷ ws)
+  tells-proposal : {p : Proposal} {ws : List Written} → ((o : ℕ) → o < 16 → usedFor p o ≤ f o) → Tells f ws
+      → Tells f (proposal p ∷ ws)
+
+-- office me is cut off when the records ws have left, and begins again at m, which is not below any number that left
+pub record Restarts (g : Offices) (me m : ℕ) (ws : List Written) : Type 0 where
+  pub climbs : Climbs (g .num me) ws
+  pub tells : Tells (g .used me) ws
+  pub above : topAfter ws (g .top me) ≤ m
 
 -- slow agreement is called for
 pub data Calls (g : Offices) (me : ℕ) : Type 0 where
@@ -215,6 +282,13 @@ module _ (F : ℕ → Bool) where
   Apart w (report o r room) = InF F o → ⊥
   Apart w (delivery i j room) = InF F i → InF F j → w .link i j ≡ []
   Apart w (loss i j place) = InF F i → ⊥
+  Apart w (cut o b left m) = ⊥
+
+  -- what is begun is taken up: of a delivery from an office of F the arrays lose the front of the link
+  pub data TakesUp (me : ℕ) : Underway → Offices → Offices → Type 0 where
+    takes-nothing : {g : Offices} {b : Underway} → TakesUp me b g g
+    takes-front : {g : Offices} {i room : ℕ} → FromF i me
+        → TakesUp me (begun-delivery i room) g (relink g i me (without 0 (g .link i me)))
 
   -- An event, as the offices of F see it. Refused where it is one of F: a report does nothing, a delivery loses the
   -- front of the link; between offices of F only the room or the ceiling refuses. A repeat does nothing; other reports
@@ -241,15 +315,23 @@ module _ (F : ℕ → Bool) where
     answers : {g h : Offices} {i me room : ℕ} (p : Proposal) (l : List Item) → Arrives g me i p l
         → p .members .bits ≡ g .net me
         → Tests (w .clock) me (receive g me i p l) h → Happens w (delivery i me room) g h
+    restarts-apart : {g h : Offices} {o left m : ℕ} {b : Underway} → (InF F o → ⊥) → TakesUp o b g h
+        → Happens w (cut o b left m) g h
+    restarts : {g h : Offices} {me left m : ℕ} {b : Underway} (ws : List Written) → InF F me → TakesUp me b g h
+        → Restarts h me m ws
+        → Happens w (cut me b left m) g (restart h me m ws (w .clock))
 
   -- What every part of an event keeps of the numbers, for offices i and j of F.
   pub record Numbers (g : Offices) : Type 0 where
-    -- numbers on a link rise up to the sender's own; at an office of F, above the last accepted
-    pub rows : (i j : ℕ) → FromF i j → Rising 0 (g .num i) (g .link i j)
-    pub rising : (i j : ℕ) → InF F i → InF F j → (i ≡ j → ⊥) → Rising (g .acc j i) (g .num i) (g .link i j)
-    -- nobody is told of a number of its own that it has not reached
+    -- numbers on a link rise up to the largest that left, which the own number has reached; at an office of F, above
+    -- the last that it got
+    pub rows : (i j : ℕ) → FromF i j → Rising 0 (g .top i) (g .link i j)
+    pub rising : (i j : ℕ) → InF F i → InF F j → (i ≡ j → ⊥) → Rising (g .got j i) (g .top i) (g .link i j)
+    pub top-num : (i : ℕ) → InF F i → g .top i ≤ g .num i
+    pub acc-got : (i j : ℕ) → InF F i → InF F j → (i ≡ j → ⊥) → g .acc j i ≤ g .got j i
+    -- nobody is told of a number of its own that has not left it
     pub told : (i j : ℕ) → InF F i → InF F j → (i ≡ j → ⊥)
-        → Every (λ x. usedFor (x .proposal) j ≤ g .num j) (g .link i j)
+        → Every (λ x. usedFor (x .proposal) j ≤ g .top j) (g .link i j)
     -- what is stored has the number last accepted
     pub kept : (i j : ℕ) → InF F i → InF F j → (i ≡ j → ⊥) → g .stored j i .present ≡ true
         → other g j i .number ≡ g .acc j i

@@ -3,7 +3,7 @@
 use mathlib.Core.Path.{_≡_, refl, sym, ap, subst, _∙_}
 use mathlib.Core.Bool.{Bool, true, false}
 use mathlib.Core.Logic.{_⊎_, inl, inr}
-use mathlib.Core.List.{List, _∷_}
+use mathlib.Core.List.{List, [], _∷_}
 use Prim.Native.Nat.{ℕ, _^_, _≤_, _<_}
 use native.Mathlib.Omega.{arith}
 use native.Mathlib.Decide.{ℕ-discrete}
@@ -12,12 +12,11 @@ use Rattle.laws.proofs.Lists.{every-head, every-tail}
 use Rattle.laws.proofs.Fin.{true-false}
 use Rattle.laws.proofs.Upd.{upd-other}
 use Rattle.seats.specs.Offices.{serves}
-use Rattle.records.proofs.RoundTrip.{proposal-back}
 use Rattle.records.specs.declared.Proposal.{Proposal}
 use Rattle.rules.specs.State.{State, usedAt}
 use Rattle.rules.specs.Rules.{nothingWritten, received, receives, proposalRule}
 use Rattle.records.specs.Numbers.{limit}
-use Rattle.rules.specs.Refusals.{wellFormed, Event, aProposal, refusalOf, ruleOf, Result, takeOf, accepted}
+use Rattle.rules.specs.Refusals.{wellFormed, aProposal, Result, takeOf, accepted}
 use Rattle.rule_laws.proofs.Steps.{Refused, Takes, Passes, well-facts, check-facts, facts-check, take-accepts}
 use Rattle.rule_laws.proofs.Steps.{take-cases}
 use Rattle.rule_laws.proofs.Parts.{received-reads}
@@ -33,7 +32,7 @@ use Rattle.runs.proofs.StateArrays.{Sim, sim-receive}
 use Rattle.runs.proofs.RulesArrays.{Moved, moved-none, moving}
 use Rattle.runs.proofs.Proposals.{EachProposal, each-map, Begun, Makes, makes-proposal, other-members}
 use Rattle.runs.proofs.Accepting.{accepted-or-barred}
-use Rattle.runs.proofs.WorldArrays.{Good, Seen, SeenAll, GoodAnswer, Linked, seen-moved, seen-linked}
+use Rattle.runs.proofs.WorldArrays.{Good, Seen, SeenAll, Sends, GoodAnswer, Linked, seen-moved, seen-linked}
 use Rattle.runs.proofs.WorldArrays.{below-sixteen}
 use Rattle.runs.proofs.Valid.{Valid, made-below, made-valid}
 
@@ -53,6 +52,7 @@ module _ (F : ℕ → Bool) where
     taken-outside y out = record {
       kept = λ a n. record { num = refl; mode = refl; net = refl; stored = refl; acc = refl; used = refl };
       same-shown = refl;
+      same-top = refl;
       links = outside-link w g i j l seen out;
       part = λ P h. every-tail (rw front at h);
     }
@@ -62,6 +62,7 @@ module _ (F : ℕ → Bool) where
     taken-from y f = record {
       kept = λ a n. record { num = refl; mode = refl; net = refl; stored = refl; acc = refl; used = refl };
       same-shown = refl;
+      same-top = refl;
       links = λ a b c. upd2-agree (w .link) (g .link) i j l (without 0 (g .link i j)) a b
           (sym (ap (without 0) (sym (seen .links i j f) ∙ front))) (seen .links a b c);
       part = λ P h. every-tail (rw front at h);
@@ -120,6 +121,8 @@ module _ (F : ℕ → Bool) where
           let u = every-head (rw old-link at (core .told i me from q apart)) in
           let n = sim-me .num in
           let a = sim-me .acc i i-below in
+          let b = core .acc-got i me from q apart in
+          let c = core .top-num me q in
           record {
             sender = rw (v .sender) i-below;
             other = λ e. apart (sym (v .sender) ∙ e ∙ sim-me .own);
@@ -130,8 +133,8 @@ module _ (F : ℕ → Bool) where
             seat = rw (v .sender) (v .seat);
             ownSeat = rw (sim-me .own) (v .to-seat);
             stray = v .stray;
-            above = rw (v .sender, a) (r .0);
-            behind = rw (sim-me .own, n) u;
+            above = rw (v .sender, a) (let z = r .0 in omega arith);
+            behind = rw (sim-me .own, n) (let z = u in omega arith);
           }
 
       accepted-or : Takes own-state (aProposal p) room
@@ -222,6 +225,7 @@ module _ (F : ℕ → Bool) where
           used = refl;
         };
         same-shown = refl;
+        same-top = refl;
         links = λ a b c. upd2-agree (w .link) (g .link) i me l l a b refl (seen .links a b c);
         part = λ P h. of-link P h .1;
       }
@@ -326,3 +330,33 @@ module _ (F : ℕ → Bool) where
         go : (t : Bool) → F i ≡ t → Acted
         go true e = from (i-below, e) (accepted-or (i-below, e))
         go false e = outside (λ f. true-false _ (f .1) e) (take-cases own-state (aProposal p) room)
+
+    -- the proposals of its answer
+    pub delivery-sends : Sends F me (proposalAnswer w me (x .proposal) room .written)
+    delivery-sends = go (take-cases own-state (aProposal p) room)
+      where
+        nothing : Sends F me []
+        nothing = record { valid = none; below = none; names = none }
+
+        of : (a : Takes own-state (aProposal p) room) → Dec (p .members .bits ≡ own-state .net .bits)
+            → Sends F me (proposalRule own-state p .written)
+        of a (no n) = rw (other-members own-state p n) nothing
+        of a (yes same) =
+            let makes = makes-proposal own-state p in
+            let seat : serves (stored-at a .net .bits) me ≡ true
+            = ap (λ (y : ℕ). serves y me) (net-is a ∙ sym same) ∙ ap (serves (p .members .bits)) (sym (sim-me .own))
+            ∙ passed a .ownSeat in
+            let lt : stored-at a .net .bits < 2 ^ 64 = rw (net-is a) (good-me .net) in
+            let valid = made-valid (stored-at a) (proposalRule own-state p .state) me (own-is a) (q .0) lt seat
+            (within-used a) (well-facts _ (within-limit a)) (begun-is a) in
+            record {
+              valid = each-map valid (makes .sends);
+              below = each-map (made-below (stored-at a) (proposalRule own-state p .state) me (q .0) (behind a))
+                  (makes .sends);
+              names = each-map (λ p n. n .sender ∙ own-is a) (makes .sends);
+            }
+
+        go : Refused own-state (takeOf own-state (aProposal p) room) ⊎ Takes own-state (aProposal p) room
+            → Sends F me (proposalAnswer w me (x .proposal) room .written)
+        go (inl r) = unfold proposalAnswer in rw (r .is) nothing
+        go (inr a) = rw (accepted-as a) (of a (ℕ-discrete (p .members .bits) (own-state .net .bits)))

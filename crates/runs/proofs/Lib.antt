@@ -3,6 +3,9 @@ pub mod OfficeNumbers
 pub mod OfficeViews
 pub mod OfficeFresh
 pub mod OfficeDays
+pub mod CutDays
+pub mod OfficeTurns
+pub mod OfficeGiven
 pub mod Arrays
 pub mod Links
 pub mod Numbers
@@ -14,8 +17,11 @@ pub mod RulesArrays
 pub mod WorldArrays
 pub mod Reporting
 pub mod Delivering
+mod Cutting
 pub mod Events
 pub mod Places
 pub mod NetView
 pub mod Start
 pub mod Runs
+pub mod FilesAbove
+pub mod FilesOnce

@@ -18,13 +18,15 @@ use Rattle.laws.proofs.Upd.{upd-same, upd-other, upd-cases}
 use Rattle.records.specs.declared.Report.{Report}
 use Rattle.records.specs.declared.Proposal.{Proposal}
 use Rattle.rules.specs.State.{State}
-use Rattle.rules.specs.Rules.{Outcome, netAfter, fresh, reportRule}
+use Rattle.rules.specs.Rules.{Outcome, netAfter, fresh, restarted, reportRule}
 use Rattle.rules.specs.Refusals.{Event, aReport, aProposal, ruleOf, Result, takeOf, accepted}
 use Rattle.rule_laws.proofs.Steps.{Refused, Takes, take-accepts, take-cases}
 use Rattle.rule_laws.proofs.Repeats.{net-repeat, repeat-rule}
-use Rattle.rule_laws.proofs.Parts.{fresh-reads}
-use Rattle.runs.specs.World.{Item, World, atFirst, WorldEvent, report, delivery, loss, answered, withLink, idle}
-use Rattle.runs.specs.World.{delivered, reportAnswer, proposalAnswer, next, run, at, Nth, netOne, netBy, Among}
+use Rattle.rule_laws.proofs.Parts.{fresh-reads, restarted-reads}
+use Rattle.runs.specs.World.{Item, World, atFirst, Underway, nothing-begun, begun-report, begun-delivery}
+use Rattle.runs.specs.World.{WorldEvent, report, delivery, loss, cut, takenUp, cutAnswer, answered, withLink}
+use Rattle.runs.specs.World.{idle, delivered, reportAnswer, proposalAnswer, next, run, at, Nth, netOne, netBy}
+use Rattle.runs.specs.World.{Among}
 use Rattle.runs.specs.Begins.{AllAmong}
 use Rattle.runs.proofs.Proposals.{report-net, proposal-net}
 
@@ -53,7 +55,7 @@ step-proposal-net s p room =
 -- an event gives office i the net view that the statement counts
 net-one : (w : World) (e : WorldEvent) (i : ℕ) → Among e
     → next w e .state i .net .bits ≡ netOne w e i (w .state i .net .bits)
-unfolding next answered reportAnswer
+unfolding next answered reportAnswer cutAnswer
 net-one w (report o r room) i a = go (ℕ-discrete i o)
   where
     go : Dec (i ≡ o) → upd (w .state) o (takeOf (w .state o) (aReport r) room .state) i .net .bits
@@ -74,6 +76,18 @@ net-one w (delivery a b room) i m = go (w .link a b)
         upd-cases (λ (i : ℕ) (s : State). s .net .bits ≡ w .state i .net .bits) (w .state) b _ i
         (step-proposal-net (w .state b) (x .proposal) room) (λ n. refl)
 net-one w (loss a b place) i m = unfold idle withLink in refl
+net-one w (cut o b left m) i a = go b (ℕ-discrete i o)
+  where
+    go : (b : Underway) → Dec (i ≡ o)
+        → upd (takenUp w o b .state) o (restarted o m) i .net .bits ≡ ifb (eqb o i) 0 (w .state i .net .bits)
+    go b (yes e) = rw (e, upd-same (takenUp w o b .state) o (restarted o m), eq-eqb o o refl)
+        (restarted-reads o m .net-is)
+    go b (no n) = rw (upd-other (takenUp w o b .state) o (restarted o m) i n, ne-eqb o i (λ e. n (sym e))) (same b)
+      where
+        same : (b : Underway) → takenUp w o b .state i .net .bits ≡ w .state i .net .bits
+        same nothing-begun = unfold takenUp in refl
+        same (begun-report r room) = unfold takenUp in refl
+        same (begun-delivery j room) = unfold takenUp withLink in refl
 
 net-run : (w : World) (es : List WorldEvent) (i : ℕ) → AllAmong es
     → run w es .state i .net .bits ≡ netBy w es i (w .state i .net .bits)
@@ -83,15 +97,25 @@ net-run w (e ∷ es) i m =
     net-run (next w e) es i (λ n f h. m (suc n) f (let a = h .0 in omega arith, h .1))
     ∙ ap (netBy (next w e) es i) (net-one w e i (m 0 e (omega arith, refl)))
 
--- what changes it is a report to the office
-pub changing-report : (w : World) (e : WorldEvent) (i x : ℕ) → (netOne w e i x ≡ x → ⊥)
-    → (r : Report) × (room : ℕ) × (e ≡ report i r room)
+-- what changes it is a report to the office, or a cut of it
+abbrev pub ReportOf : WorldEvent → ℕ → Type 0
+ReportOf e i = (r : Report) × (room : ℕ) × (e ≡ report i r room)
+
+abbrev pub CutOf : WorldEvent → ℕ → Type 0
+CutOf e i = (b : Underway) × (left : ℕ) × (m : ℕ) × (e ≡ cut i b left m)
+
+pub changing-report : (w : World) (e : WorldEvent) (i x : ℕ) → (netOne w e i x ≡ x → ⊥) → ReportOf e i ⊎ CutOf e i
 changing-report w (delivery a b room) i x n = absurd (n refl)
 changing-report w (loss a b place) i x n = absurd (n refl)
 changing-report w (report o r room) i x n = go (eqb o i) refl
   where
-    go : (t : Bool) → eqb o i ≡ t → (q : Report) × (k : ℕ) × (report o r room ≡ report i q k)
-    go true e = (r, room, ap (λ (y : ℕ). report y r room) (eqb-true o i e))
+    go : (t : Bool) → eqb o i ≡ t → ReportOf (report o r room) i ⊎ CutOf (report o r room) i
+    go true e = inl (r, room, ap (λ (y : ℕ). report y r room) (eqb-true o i e))
+    go false e = absurd (n (rw e))
+changing-report w (cut o b left m) i x n = go (eqb o i) refl
+  where
+    go : (t : Bool) → eqb o i ≡ t → ReportOf (cut o b left m) i ⊎ CutOf (cut o b left m) i
+    go true e = inr (b, left, m, ap (λ (y : ℕ). cut y b left m) (eqb-true o i e))
     go false e = absurd (n (rw e))
 
 -- a report that leaves it writes nothing

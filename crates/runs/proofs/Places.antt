@@ -10,7 +10,8 @@ use Rattle.laws.specs.Lists.{runs}
 use Rattle.laws.proofs.Lists.{runs-append}
 use Rattle.laws.proofs.Loops.{same-entry}
 use Rattle.rules.specs.State.{State}
-use Rattle.runs.specs.World.{Item, World, atFirst, WorldEvent, report, delivery, loss, answered, withLink, idle}
+use Rattle.runs.specs.World.{Item, World, atFirst, Underway, nothing-begun, begun-report, begun-delivery}
+use Rattle.runs.specs.World.{WorldEvent, report, delivery, loss, cut, takenUp, answered, withLink, idle}
 use Rattle.runs.specs.World.{delivered, next, run, at, Nth}
 
 -- the event at a place
@@ -31,7 +32,7 @@ pub drop-next : (es : List WorldEvent) (n : ℕ) (e : WorldEvent) → Nth es n e
 drop-next es n e h = rw (add-one, drop-cons es n e (h .0), h .1)
 
 clock-next : (w : World) (e : WorldEvent) → next w e .clock ≡ w .clock + 1
-unfolding next answered idle withLink
+unfolding next answered idle withLink takenUp
 clock-next w (report o r room) = refl
 clock-next w (delivery i j room) = go (w .link i j)
   where
@@ -39,6 +40,12 @@ clock-next w (delivery i j room) = go (w .link i j)
     go [] = refl
     go (x ∷ l) = refl
 clock-next w (loss i j place) = refl
+clock-next w (cut o b left m) = go b
+  where
+    go : (b : Underway) → takenUp w o b .clock + 1 ≡ w .clock + 1
+    go nothing-begun = refl
+    go (begun-report r room) = refl
+    go (begun-delivery i room) = refl
 
 clock-run : (w : World) (es : List WorldEvent) → run w es .clock ≡ w .clock + length es
 unfolding runs

@@ -2,7 +2,7 @@
 use mathlib.Core.Path.{_≡_, refl, sym, ap, subst, _∙_}
 use mathlib.Core.Bool.{Bool, true, false}
 use mathlib.Core.Logic.{_⊎_, inl, inr}
-use mathlib.Core.List.{List}
+use mathlib.Core.List.{List, []}
 use Prim.Native.Nat.{ℕ, _^_, _≤_, _<_}
 use native.Mathlib.Omega.{arith}
 use Rattle.laws.specs.Lists.{none}
@@ -15,7 +15,7 @@ use Rattle.records.specs.declared.Report.{Report}
 use Rattle.rules.specs.State.{State, usedAt}
 use Rattle.rules.specs.Rules.{nothingWritten, netAfter, withNet, repeats, seated, receives, reportRule}
 use Rattle.records.specs.Numbers.{limit}
-use Rattle.rules.specs.Refusals.{wellFormed, Event, aReport, ruleOf, Result, takeOf, accepted}
+use Rattle.rules.specs.Refusals.{wellFormed, aReport, Result, takeOf, accepted}
 use Rattle.rule_laws.proofs.Steps.{Refused, Takes, well-facts, take-accepts}
 use Rattle.rule_laws.proofs.Repeats.{repeat-net, change-net, repeat-rule}
 use Rattle.rule_laws.proofs.Parts.{withNet-reads}
@@ -28,8 +28,8 @@ use Rattle.runs.proofs.RulesArrays.{Moved, moved-none, moving, fast-mov
 use Rattle.runs.proofs.Proposals.{EachProposal, each-map, Begun, Makes, makes-report, unseated-report}
 use Rattle.runs.proofs.Accepting.{accepted-or-barred}
 use Rattle.runs.proofs.Valid.{Valid, made-below, made-valid}
-use Rattle.runs.proofs.WorldArrays.{Good, Seen, SeenAll, GoodAnswer, SameOwn, seen-but, seen-moved, seen-turned}
-use Rattle.runs.proofs.WorldArrays.{below-sixteen}
+use Rattle.runs.proofs.WorldArrays.{Good, Seen, SeenAll, Sends, GoodAnswer, SameOwn, seen-but, seen-moved}
+use Rattle.runs.proofs.WorldArrays.{seen-turned, below-sixteen}
 
 module _ (F : ℕ → Bool) where
   -- a report at an office of F
@@ -85,7 +85,7 @@ module _ (F : ℕ → Bool) where
 
     seen-renet : Seen F me w (renet g me made-net)
     unfolding renet
-    seen-renet = seen-turned F w g (renet g me made-net) me seen renetted-kept refl refl
+    seen-renet = seen-turned F w g (renet g me made-net) me seen renetted-kept refl refl refl
 
     abbrev turned : State
     turned = withNet mine made-net
@@ -197,3 +197,32 @@ module _ (F : ℕ → Bool) where
             → Acted (reportAnswer w me rep room)
         go (inl a) = accepted-acts a
         go (inr r) = refused-acts (r .0) (r .1)
+
+    -- the proposals of its answer
+    pub report-sends : Sends F me (reportAnswer w me rep room .written)
+    report-sends = go (accepted-or-barred mine (aReport rep) room (good .passes) refl)
+      where
+        nothing : Sends F me []
+        nothing = record { valid = none; below = none; names = none }
+
+        of : (a : Takes mine (aReport rep) room) (u : Bool) → repeats mine rep ≡ u → (t : Bool) → seated turned ≡ t
+            → Sends F me (reportRule mine rep .written)
+        of a true c t e = rw (repeat-rule mine rep c) nothing
+        of a false c false e = rw (unseated-report mine rep e) nothing
+        of a false c true e =
+            let makes = makes-report mine rep in
+            let seat : serves (turned .net .bits) me ≡ true = ap (serves (turned .net .bits)) (sym turned-own)
+            ∙ (unfold seated in e) in
+            let valid = made-valid turned (reportRule mine rep .state) me turned-own (q .0)
+            (rw turned-net net-below) seat within (well-facts _ (passes a)) turned-begun in
+            record {
+              valid = each-map valid (makes .sends);
+              below = each-map (made-below turned (reportRule mine rep .state) me (q .0) behind) (makes .sends);
+              names = each-map (λ p m. m .sender ∙ turned-own) (makes .sends);
+            }
+
+        go : Takes mine (aReport rep) room
+            ⊎ (Refused mine (takeOf mine (aReport rep) room) × Barred (takeOf mine (aReport rep) room))
+            → Sends F me (reportAnswer w me rep room .written)
+        go (inl a) = rw (answer a) (of a (repeats mine rep) refl (seated turned) refl)
+        go (inr r) = unfold reportAnswer in rw (r .0 .is) nothing

@@ -7,6 +7,8 @@ use native.Mathlib.Omega.{arith}
 use native.Mathlib.Decide.{decLt}
 use Rattle.laws.proofs.Fin.{if-cases, anyb-none, true-false, largest-ext}
 use Rattle.laws.proofs.Tab.{tab-ext}
+use Rattle.laws.specs.Lists.{Every}
+use Rattle.laws.proofs.Lists.{every-split, every-head}
 use Rattle.laws.specs.Upd.{ifb}
 use Rattle.laws.proofs.Upd.{upd-same, upd-other}
 use Rattle.seats.specs.Offices.{serves}
@@ -15,6 +17,7 @@ use Rattle.rules.specs.State.{Mode, None, Fast, Slow, Slot, State, fast, slow, 
 use Rattle.rules.specs.Rules.{Written, notice, proposal, view, Outcome, nothingWritten, andThen, receives}
 use Rattle.rules.specs.Rules.{hasRecipient, ownProposal, proposed, opens, inSlot, startOf, viewOf, concluded}
 use Rattle.rules.specs.Rules.{slowCalled, slowNumber, nextNumber, beginsIn, proposesSlow, proposesFast}
+use Rattle.rules.specs.Leaving.{ownNumber}
 use Rattle.rule_laws.proofs.Parts.{made-is, made-used}
 use Rattle.rule_laws.proofs.Tests.{Matching, Above, Cause, in-none, heard-slow, is-used, above-own, NotCalled}
 use Rattle.rule_laws.proofs.Tests.{NumberFrom, joins, starts, Agreeing, AllAgree, called-out, not-called, slow-number}
@@ -22,8 +25,8 @@ use Rattle.rule_laws.proofs.Tests.{slow-above, next-above, agreed-out, agreed-i
 use Rattle.rule_laws.proofs.Walk.{slowRound, concludes, Tested}
 use Rattle.runs.specs.World.{Item, SentRecord, SentView, mail, logged, viewsIn}
 use Rattle.runs.proofs.Arrays as off
-use Rattle.runs.proofs.Arrays.{Offices, mailTo, propose, conclude, viewWith, Match, other, Proposes, Calls}
-use Rattle.runs.proofs.Arrays.{Silent, Joinable, Chosen, Agrees, Agreed, SlowTest, AgreementTest, Tests}
+use Rattle.runs.proofs.Arrays.{shows, Offices, mailTo, propose, conclude, viewWith, Match, other, Proposes}
+use Rattle.runs.proofs.Arrays.{Calls, Silent, Joinable, Chosen, Agrees, Agreed, SlowTest, AgreementTest, Tests}
 use Rattle.runs.proofs.StateArrays.{Sim, sim-open, sim-propose, sim-conclude}
 
 -- the view of a set depends on the start numbers of the set's offices alone
@@ -53,13 +56,6 @@ mail-append t j (proposal p ∷ a) b =
     rw e (sym (mail-proposal (receives p j) (record { proposal = p; sent = t }) (mail t j a) (mail t j b)))
 mail-append t j (view v ∷ a) b = mail-append t j a b
 
--- the views of an answer, before those sent earlier
-abbrev pub shows : ℕ → List Written → List SentView → List SentView
-shows t [] vs = vs
-shows t (notice n ∷ ws) vs = shows t ws vs
-shows t (proposal p ∷ ws) vs = shows t ws vs
-shows t (view v ∷ ws) vs = shows t ws (record { view = v; sent = t } ∷ vs)
-
 pub views-logged : (t : ℕ) (ws : List Written) (l : List SentRecord) → viewsIn (logged t ws l) ≡ shows t ws (viewsIn l)
 views-logged t [] l = refl
 views-logged t (notice n ∷ ws) l = views-logged t ws (record { what = notice n; clock = t } ∷ l)
@@ -86,6 +82,7 @@ pub record Same (g h : Offices) (i : ℕ) : Type 0 where
   pub used : h .used i ≡ g .used i
   pub link : h .link i ≡ g .link i
   pub shown : h .shown i ≡ g .shown i
+  pub top : h .top i ≡ g .top i
 
 pub same-refl : (g : Offices) (i : ℕ) → Same g g i
 same-refl g i = record {
@@ -97,6 +94,7 @@ same-refl g i = record {
   used = refl;
   link = refl;
   shown = refl;
+  top = refl;
 }
 
 same-trans : {g h k : Offices} {i : ℕ} → Same g h i → Same h k i → Same g k i
@@ -109,6 +107,7 @@ same-trans a b = record {
   used = b .used ∙ a .used;
   link = b .link ∙ a .link;
   shown = b .shown ∙ a .shown;
+  top = b .top ∙ a .top;
 }
 
 same-propose : (g : Offices) (me : ℕ) (m : Mode) (p : Proposal) (t i : ℕ) → (i ≡ me → ⊥)
@@ -123,6 +122,7 @@ same-propose g me m p t i n = record {
   used = refl;
   link = upd-other (g .link) me _ i n;
   shown = refl;
+  top = upd-other (g .top) me _ i n;
 }
 
 same-conclude : (g : Offices) (me t i : ℕ) → (i ≡ me → ⊥) → Same g (conclude g me t) i
@@ -136,6 +136,7 @@ same-conclude g me t i n = record {
   used = upd-other (g .used) me _ i n;
   link = refl;
   shown = upd-other (g .shown) me _ i n;
+  top = refl;
 }
 
 -- the outcome o of office me is what the arrays became: h after g
@@ -143,6 +144,7 @@ pub record Moved (t me : ℕ) (g : Offices) (o : Outcome) (h : Offices) : Type 0
   pub sim : Sim (o .state) h me
   pub mailed : (j : ℕ) → j < 16 → h .link me j ≡ g .link me j ++ mail t j (o .written)
   pub showed : h .shown me ≡ shows t (o .written) (g .shown me)
+  pub topped : (m : ℕ) → g .top me ≤ m → Every (λ w. ownNumber w ≤ m) (o .written) → h .top me ≤ m
   pub elsewhere : (i : ℕ) → (i ≡ me → ⊥) → Same g h i
 
 pub moved-none : (t me : ℕ) (g : Offices) (s : State) → Sim s g me → Moved t me g (nothingWritten s) g
@@ -150,6 +152,7 @@ moved-none t me g s h = record {
   sim = h;
   mailed = λ j lt. sym (append-nil (g .link me j));
   showed = refl;
+  topped = λ m l e. l;
   elsewhere = λ i n. same-refl g i;
 }
 
@@ -164,6 +167,7 @@ moved-then t me g h k o f a b = record {
       ∙ ap (λ (l : List Item). g .link me j ++ l) (sym (mail-append t j (o .written) (f (o .state) .written)));
   showed = b .showed ∙ ap (shows t (f (o .state) .written)) (a .showed)
       ∙ sym (shows-append t (o .written) (f (o .state) .written) (g .shown me));
+  topped = λ m l e. let x = every-split (o .written) e in b .topped m (a .topped m l (x .0)) (x .1);
   elsewhere = λ i n. same-trans (a .elsewhere i n) (b .elsewhere i n);
 }
 
@@ -293,13 +297,18 @@ module _ (t me : ℕ) (s : State) (g : Offices) (h : Sim s g me) where
   -- what is written is the proposal, where it has a recipient
   pub moved-propose : (m : Mode) (n : ℕ) (ws : List Written)
       → ((j : ℕ) → j < 16 → mail t j ws ≡ mailTo t (ownProposal m n s) j) → shows t ws (g .shown me) ≡ g .shown me
+      → ((k : ℕ) → Every (λ w. ownNumber w ≤ k) ws → hasRecipient (ownProposal m n s) ≡ true
+      → ownProposal m n s .number ≤ k)
       → Moved t me g (record { state = proposed m n s; written = ws }) (propose g me m (ownProposal m n s) t)
   unfolding propose
-  moved-propose m n ws e v = record {
+  moved-propose m n ws e v y = record {
     sim = sim-propose s g me h m n t;
     mailed = λ j lt. ap (λ f. f j) (upd-same (g .link) me _)
         ∙ ap (λ (l : List Item). g .link me j ++ l) (sym (e j lt));
     showed = sym v;
+    topped = λ k l z. rw (upd-same (g .top) me)
+        (if-cases (λ (x : ℕ). x ≤ k) (hasRecipient (ownProposal m n s)) (ownProposal m n s .number) (g .top me) (y k z)
+        (λ q. l));
     elsewhere = same-propose g me m (ownProposal m n s) t;
   }
 
@@ -314,6 +323,7 @@ module _ (t me : ℕ) (s : State) (g : Offices) (h : Sim s g me) where
   moved-conclude = record {
     sim = sim-conclude s g me h t;
     mailed = λ j lt. sym (append-nil (g .link me j));
+    topped = λ k l z. l;
     showed = upd-same (g .shown) me _ ∙ ap (λ v. record { view = v; sent = t } ∷ g .shown me) (sym view-same);
     elsewhere = same-conclude g me t;
   }
@@ -326,6 +336,7 @@ module _ (t me : ℕ) (s : State) (g : Offices) (h : Sim s g me) where
       sim = sim-open s g me h;
       mailed = λ j lt. sym (append-nil (g .link me j));
       showed = refl;
+      topped = λ m l e. l;
       elsewhere = λ i n. same-refl g i;
     },
   )
@@ -340,7 +351,7 @@ module _ (t me : ℕ) where
     propose g me Slow (ownProposal Slow (slowNumber s) s) t,
     refl,
     moved-propose t me s g h Slow (slowNumber s) _
-        (λ j lt. mail-one t j _) refl,
+        (λ j lt. mail-one t j _) refl (λ k z q. every-head z),
   )
 
   slow-called : (s u : State) (g : Offices) → Sim s g me → Sim u g me → slowCalled s ≡ true
@@ -398,6 +409,10 @@ module _ (t me : ℕ) where
   fast-shows : (p : Proposal) (vs : List SentView) → shows t (ifb (hasRecipient p) (proposal p ∷ []) []) vs ≡ vs
   fast-shows p vs = if-cases (λ (ws : List Written). shows t ws vs ≡ vs) (hasRecipient p) _ _ (λ e. refl) (λ e. refl)
 
+  fast-top : (p : Proposal) (k : ℕ) → Every (λ w. ownNumber w ≤ k) (ifb (hasRecipient p) (proposal p ∷ []) [])
+      → hasRecipient p ≡ true → p .number ≤ k
+  fast-top p k z q = let y : Every (λ w. ownNumber w ≤ k) (proposal p ∷ []) = rw q at z in every-head y
+
   -- step 3 and a fast proposal
   pub fast-moves : (s : State) (g : Offices) → Sim s g me → let u = opens s .state in
       let p = ownProposal Fast (nextNumber u) u in
@@ -409,5 +424,6 @@ module _ (t me : ℕ) where
       let p = ownProposal Fast (nextNumber u) u in (
         to-proposes t me u g (b .0) Fast (nextNumber u) (next-above u),
         moved-then t me g g (propose g me Fast p t) (opens s) proposesFast (b .1)
-            (moved-propose t me u g (b .0) Fast (nextNumber u) _ (fast-mail p) (fast-shows p (g .shown me))),
+            (moved-propose t me u g (b .0) Fast (nextNumber u) _ (fast-mail p) (fast-shows p (g .shown me))
+            (fast-top p)),
       )

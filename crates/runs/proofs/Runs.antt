@@ -10,8 +10,9 @@ use Rattle.laws.specs.Lists.{runs}
 use Rattle.records.specs.declared.Proposal.{Proposal}
 use Rattle.rules.specs.State.{State, usedFor}
 use Rattle.runs.specs.World.{Item, World, WorldEvent, atFirst, at, Nth}
-use Rattle.runs.specs.Begins.{InF, Begins, AllAmong, HasSent, Rising}
+use Rattle.runs.specs.Begins.{InF, Begins, AllAmong, RestartsAbove, HasSent, Rising}
 use Rattle.runs.proofs.Arrays.{Offices, FromF, Numbers, Happens}
+use Rattle.runs.proofs.Links.{rising-high}
 use Rattle.runs.proofs.Numbers.{numbers-acts}
 use Rattle.runs.proofs.WorldArrays.{SeenAll, below-sixteen}
 use Rattle.runs.proofs.Events.{world-acts}
@@ -20,7 +21,7 @@ use Rattle.runs.proofs.Start.{atStart, start-numbers, start-seen}
 
 module _ (F : ℕ → Bool) (states : ℕ → State) (links : ℕ → ℕ → List Item) (es : List WorldEvent)
     (begins : Begins F states links)
-    (among : AllAmong es) where
+    (among : AllAmong es) (above : RestartsAbove F (atFirst states links) es) where
   -- the world before event n
   abbrev pub world : ℕ → World
   world n = at (atFirst states links) es n
@@ -33,7 +34,7 @@ module _ (F : ℕ → Bool) (states : ℕ → State) (links : ℕ → ℕ → Li
   pub event-acts : (n : ℕ) (e : WorldEvent) → Nth es n e → (g : Offices) → SeenAll F (world n) g → Numbers F g
       → (h : Offices) × Happens F (world n) e g h × SeenAll F (world (n + 1)) h × Numbers F h
   event-acts n e k g s c =
-      let a = world-acts F (world n) g e s c (among n e k) in (
+      let a = world-acts F (world n) g e s c (among n e k) (above n e k) in (
         a .0,
         a .1,
         subst (λ (w : World). SeenAll F w (a .0)) (sym (at-next (atFirst states links) es n e k)) (a .2),
@@ -69,7 +70,8 @@ module _ (F : ℕ → Bool) (states : ℕ → State) (links : ℕ → ℕ → Li
       → Rising 0 (world n .state i .number) (world n .link i j)
   rows-rise n l i j f =
       let s = any-time n l in
-      rw (s .1 .links i j f, s .1 .sim i (f .0) (below-sixteen F (f .0 .0)) .num) (s .2 .rows i j f)
+      rw (s .1 .links i j f, s .1 .sim i (f .0) (below-sixteen F (f .0 .0)) .num)
+      (rising-high _ (s .2 .top-num i (f .0)) (s .2 .rows i j f))
 
   -- a proposal that an office of F has sent has a used number for that office below its own number
   pub used-below : (n : ℕ) → n ≤ length es → (i : ℕ) → InF F i → (p : Proposal) → HasSent (world n) i p

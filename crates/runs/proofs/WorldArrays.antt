@@ -3,23 +3,24 @@ use mathlib.Core.Path.{_≡_, sym, ap, subst, refl, _∙_}
 use mathlib.Core.Bool.{Bool, true}
 use mathlib.Core.Logic.{_⊎_, inl, inr, ⊎-elim}
 use mathlib.Core.List.{List, [], _∷_, _++_, List·Memᴰ, List·Memᴰ·cases-cons}
-use Prim.Native.Nat.{ℕ, _+_, _^_, _<_}
+use Prim.Native.Nat.{ℕ, _+_, _^_, _≤_, _<_}
 use native.Mathlib.Omega.{arith}
 use Rattle.laws.specs.Lists.{Every, none, more}
-use Rattle.laws.proofs.Lists.{every-append, every-map}
+use Rattle.laws.proofs.Lists.{every-append, every-map, every-head, every-tail}
 use Rattle.laws.proofs.Fin.{if-cases}
 use Rattle.laws.specs.Upd.{upd}
 use Rattle.laws.proofs.Upd.{upd-cases}
 use Rattle.records.specs.declared.Proposal.{Proposal}
 use Rattle.rules.specs.State.{State, usedFor}
 use Rattle.rules.specs.Rules.{Written, notice, proposal, view, Outcome, receives}
+use Rattle.rules.specs.Leaving.{ownNumber}
 use Rattle.rules.specs.Refusals.{wellFormed, Result, accepted}
 use Rattle.runs.specs.World.{Item, World, SentRecord, viewsIn, mail, logged, answered, withLink, idle}
-use Rattle.runs.proofs.Arrays.{Offices, FromF}
+use Rattle.runs.proofs.Arrays.{Offices, FromF, shows}
 use Rattle.runs.specs.Begins.{InF, HasSent}
 use Rattle.laws.proofs.Grid.{upd2-cases}
 use Rattle.runs.proofs.StateArrays.{Sim}
-use Rattle.runs.proofs.RulesArrays.{Same, Moved, shows, views-logged}
+use Rattle.runs.proofs.RulesArrays.{Same, Moved, views-logged}
 use Rattle.runs.proofs.Valid.{Valid}
 use Rattle.runs.proofs.Proposals.{EachProposal, each-map, a-notice, a-proposal, a-view, Begun}
 
@@ -74,6 +75,13 @@ in-log {P} {p} {c} t (proposal r ∷ ws) l (more (a-proposal y) e) h =
     subst P z y)
     (in-log t ws (Entry r t ∷ l) e h)
 
+-- what holds of all that is logged holds of what was sent and of what was logged before
+pub logged-every : (P : Written → Type 0) (t : ℕ) (ws : List Written) (l : List SentRecord)
+    → Every (λ x. P (x .what)) (logged t ws l)
+    → Every P ws × Every (λ x. P (x .what)) l
+logged-every P t [] l e = (none, e)
+logged-every P t (r ∷ ws) l e = let x = logged-every P t ws _ e in (more (every-head (x .1)) (x .0), every-tail (x .1))
+
 module _ (F : ℕ → Bool) where
   -- the arrays g say what is so in the world w; of the office x, if it is one, only its links and views
   pub record Seen (x : ℕ) (w : World) (g : Offices) : Type 0 where
@@ -86,6 +94,8 @@ module _ (F : ℕ → Bool) where
     pub stamped : (i j : ℕ) → FromF F i j → Every (λ x. x .sent < w .clock) (w .link i j)
     pub named : (o j : ℕ) → o < 16 → j < 16 → Every (λ x. x .proposal .sender ≡ o) (w .link o j)
     pub below : (i : ℕ) → InF F i → (p : Proposal) → HasSent w i p → usedFor p i < p .number
+    -- what is not below the numbers given out is not below the largest that left
+    pub tops : (i : ℕ) → InF F i → (m : ℕ) → Every (λ x. ownNumber (x .what) ≤ m) (w .log i) → g .top i ≤ m
 
   -- of all offices
   abbrev pub SeenAll : World → Offices → Type 0
@@ -105,6 +115,7 @@ module _ (F : ℕ → Bool) where
     stamped = s .stamped;
     named = s .named;
     below = s .below;
+    tops = s .tops;
   }
 
   -- the arrays h say the same of the own parts of office i as g
@@ -129,6 +140,12 @@ module _ (F : ℕ → Bool) where
 
   same-kept : {g h : Offices} {i : ℕ} → Same g h i → SameOwn g h i
   same-kept e = record { num = e .num; mode = e .mode; net = e .net; stored = e .stored; acc = e .acc; used = e .used }
+
+  -- what the world must know of the proposals that office me sends
+  pub record Sends (me : ℕ) (ws : List Written) : Type 0 where
+    pub valid : EachProposal (λ p. (j : ℕ) → receives p j ≡ true → Valid me j p) ws
+    pub below : EachProposal (λ p. usedFor p me < p .number) ws
+    pub names : EachProposal (λ p. p .sender ≡ me) ws
 
   -- what the world must know of the answer of office me
   pub record GoodAnswer (me : ℕ) (o : Outcome) : Type 0 where
@@ -180,12 +197,18 @@ module _ (F : ℕ → Bool) where
           (w .log) me _ i (λ b h. ⊎-elim (λ e. e) (λ e. s .below me b p (_, e))
           (in-log (w .clock) (o .written) (w .log me) (a .below) h)) (λ n b h. s .below i b p (_, h))
           b (h .1);
+      tops = λ i b n. upd-cases (λ (i : ℕ) (l : List SentRecord). InF F i → Every (λ x. ownNumber (x .what) ≤ n) l
+          → k .top i ≤ n) (w .log) me _ i
+          (λ b e. let x = logged-every (λ w. ownNumber w ≤ n) (w .clock) (o .written) (w .log me) e in
+          m .topped n (s .tops me b n (x .1)) (x .0))
+          (λ d b e. rw (m .elsewhere i d .top) (s .tops i b n e)) b;
     }
 
   -- the link from i to j becomes l, and the arrays h after g, of office x perhaps more
   pub record Linked (w : World) (g h : Offices) (x i j : ℕ) (l : List Item) : Type 1 where
     pub kept : (a : ℕ) → (a ≡ x → ⊥) → SameOwn g h a
     pub same-shown : h .shown ≡ g .shown
+    pub same-top : h .top ≡ g .top
     pub links : (a b : ℕ) → FromF F a b → withLink w i j l .link a b ≡ h .link a b
     pub part : (P : Item → Type 0) → Every P (w .link i j) → Every P l
 
@@ -202,6 +225,7 @@ module _ (F : ℕ → Bool) where
     stamped = λ a b p. place (λ a b x. x .sent < w .clock) a b (s .stamped a b p);
     named = λ a b p q. place (λ a b x. x .proposal .sender ≡ a) a b (s .named a b p q);
     below = s .below;
+    tops = λ a b m e. rw (ap (λ f. f a) (k .same-top)) (s .tops a b m e);
   }
     where
       place : (P : ℕ → ℕ → Item → Type 0) (a b : ℕ) → Every (P a b) (w .link a b)
@@ -223,6 +247,7 @@ module _ (F : ℕ → Bool) where
     stamped = λ i j b. every-map (λ x e. omega arith) (s .stamped i j b);
     named = s .named;
     below = s .below;
+    tops = s .tops;
   }
 
   -- an answer of an office that is not of F
@@ -254,13 +279,16 @@ module _ (F : ℕ → Bool) where
     below = λ i b p h. upd-cases (λ (i : ℕ) (l : List SentRecord). InF F i → List·Memᴰ (Entry p (h .0)) l
         → usedFor p i < p .number)
         (w .log) o _ i (λ b. absurd (out b)) (λ n b h. s .below i b p (_, h)) b (h .1);
+    tops = λ i b n. upd-cases (λ (i : ℕ) (l : List SentRecord). InF F i → Every (λ x. ownNumber (x .what) ≤ n) l
+        → g .top i ≤ n) (w .log) o _ i
+        (λ b. absurd (out b)) (λ d b e. s .tops i b n e) b;
   }
 
   -- the arrays change for office x alone, and not its links and its views
   pub seen-turned : (w : World) (g h : Offices) (x : ℕ) → SeenAll w g → ((a : ℕ) → (a ≡ x → ⊥) → SameOwn g h a)
       → h .link ≡ g .link → h .shown ≡ g .shown
-      → Seen x w h
-  seen-turned w g h x s k l v = record {
+      → h .top ≡ g .top → Seen x w h
+  seen-turned w g h x s k l v u = record {
     sim = λ a b n. sim-kept (w .state a) g h a (k a n) (s .sim a b (below-sixteen (b .0)));
     good = λ a b n. s .good a b (below-sixteen (b .0));
     owns = λ a b n. s .owns a b (below-sixteen b);
@@ -270,4 +298,5 @@ module _ (F : ℕ → Bool) where
     stamped = s .stamped;
     named = s .named;
     below = s .below;
+    tops = λ a b m e. rw (ap (λ f. f a) u) (s .tops a b m e);
   }

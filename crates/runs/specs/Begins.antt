@@ -6,9 +6,12 @@ use mathlib.Core.List.{List, [], _∷_, List·Memᴰ}
 use Prim.Native.Nat.{ℕ, _≤_, _<_}
 use Rattle.laws.specs.Lists.{Every}
 use Rattle.records.specs.declared.Proposal.{Proposal}
+use Rattle.records.specs.Numbers.{limit}
 use Rattle.rules.specs.State.{State}
+use Rattle.rules.specs.Leaving.{ownNumber}
 use Rattle.rules.specs.Rules.{proposal, fresh}
-use Rattle.runs.specs.World.{Item, World, WorldEvent, Nth, Among}
+use Rattle.runs.specs.World.{Item, World, WorldEvent, report, delivery, loss, cut, next as nextWorld, at, Nth}
+use Rattle.runs.specs.World.{Among}
 
 -- office i is one of F
 abbrev pub InF : (ℕ → Bool) → ℕ → Type 0
@@ -23,6 +26,19 @@ pub record Begins (F : ℕ → Bool) (states : ℕ → State) (links : ℕ → �
 -- the events of the list are of the sixteen offices and their links
 abbrev pub AllAmong : List WorldEvent → Type 0
 AllAmong es = (n : ℕ) (e : WorldEvent) → Nth es n e → Among e
+
+-- an office of F that is cut off begins again at or above every number that it has given out in a record that left,
+-- and not above L
+abbrev pub CutAbove : (ℕ → Bool) → World → WorldEvent → Type 0
+CutAbove F w (report o r room) = Unit {0}
+CutAbove F w (delivery i j room) = Unit {0}
+CutAbove F w (loss i j place) = Unit {0}
+CutAbove F w (cut o b left m) = InF F o → Every (λ x. ownNumber (x .what) ≤ m) (nextWorld w (cut o b left m) .log o)
+    × (m ≤ limit)
+
+-- at every cut of the list
+abbrev pub RestartsAbove : (ℕ → Bool) → World → List WorldEvent → Type 0
+RestartsAbove F first es = (n : ℕ) (e : WorldEvent) → Nth es n e → CutAbove F (at first es n) e
 
 -- office i has sent the proposal p
 abbrev pub HasSent : World → ℕ → Proposal → Type 0

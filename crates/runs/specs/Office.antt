@@ -1,14 +1,19 @@
 -- One office's run: the records handed to it one after another, the log of its answers, and what its views counted.
+-- Then the same where the office may be cut off and begin again.
 use mathlib.Core.Path.{_≡_}
 use mathlib.Core.Bool.{true}
 use mathlib.Core.List.{List, [], _∷_, _++_, List·Memᴰ}
-use Prim.Native.Nat.{ℕ, _<_}
-use Rattle.laws.specs.Lists.{runs}
+use Prim.Native.Nat.{ℕ, _≤_, _<_}
+use lib.ListN.{take}
+use Rattle.laws.specs.Lists.{runs, Every}
 use Rattle.seats.specs.Offices.{serves}
+use Rattle.records.specs.Numbers.{limit}
 use Rattle.records.specs.declared.Proposal.{Proposal}
 use Rattle.records.specs.declared.View.{View}
 use Rattle.rules.specs.State.{State, keeping, storedAt}
-use Rattle.rules.specs.Rules.{Written, view, netAfter, withNet, opened, proposesFast, received, slowTest}
+use Rattle.rules.specs.Rules.{Written, notice, proposal, view, restarted, netAfter, withNet, opened, proposesFast}
+use Rattle.rules.specs.Rules.{received, slowTest}
+use Rattle.rules.specs.Leaving.{ownNumber}
 use Rattle.rules.specs.Refusals.{Event, aReport, aProposal, Result, takeOf}
 
 -- what is handed to an office: an event, and an output of length room
@@ -63,3 +68,72 @@ pub record CountedAt (e : LogEntry) (o : ℕ) (p : Proposal) : Type 0 where
   pub office : o < 16
   pub member : serves (seen .members .bits) o ≡ true
   pub stored : storedAt (testedAt e) o ≡ keeping p
+
+-- A turn of an office that may be cut off: it is handed something and answers; or its server loses its current when
+-- the first `left` records of the answer have left, and it begins again at number m. (A cut with nothing begun is one
+-- in which nothing has left.)
+pub data Turn : Type 0 where
+  entire : Input → Turn
+  broken : (begun : Input) (left m : ℕ) → Turn
+
+-- what is handed at a turn
+abbrev pub handedAt : Turn → Input
+handedAt (entire h) = h
+handedAt (broken h left m) = h
+
+abbrev pub leftAt : State → Turn → List Written
+leftAt s (entire h) = answerTo s h .written
+leftAt s (broken h left m) = take left (answerTo s h .written)
+
+abbrev pub nextTurn : State → Turn → State
+nextTurn s (entire h) = nextState s h
+nextTurn s (broken h left m) = restarted (s .own) m
+
+-- the records that leave in a run, in order
+unfoldable pub leftOver : State → List Turn → List Written
+leftOver s [] = []
+leftOver s (t ∷ ts) = leftAt s t ++ leftOver (nextTurn s t) ts
+
+-- a cut begins again at or above every number that the office has given out in a record that left, l before this turn,
+-- and not above L
+abbrev pub TurnAbove : State → List Written → Turn → Type 0
+TurnAbove s l (entire h) = Unit {0}
+TurnAbove s l (broken h left m) = Every (λ w. ownNumber w ≤ m) (l ++ take left (answerTo s h .written)) × (m ≤ limit)
+
+pub data TurnsAbove : State → List Written → List Turn → Type 0 where
+  no-turn : {s : State} {l : List Written} → TurnsAbove s l []
+  a-turn : {s : State} {l : List Written} {t : Turn} {ts : List Turn} → TurnAbove s l t
+      → TurnsAbove (nextTurn s t) (l ++ leftAt s t) ts
+      → TurnsAbove s l (t ∷ ts)
+
+-- the numbers that records give out, in order: of the proposals, of the start notices, of the views
+abbrev pub ofProposal : Written → List ℕ
+ofProposal (notice n) = []
+ofProposal (proposal p) = p .number ∷ []
+ofProposal (view v) = []
+
+abbrev pub ofNotice : Written → List ℕ
+ofNotice (notice n) = n .start ∷ []
+ofNotice (proposal p) = []
+ofNotice (view v) = []
+
+abbrev pub ofView : Written → List ℕ
+ofView (notice n) = []
+ofView (proposal p) = []
+ofView (view v) = v .number ∷ []
+
+unfoldable pub picked : (Written → List ℕ) → List Written → List ℕ
+picked f [] = []
+picked f (w ∷ ws) = f w ++ picked f ws
+
+-- numbers that rise strictly, from above lo
+pub data Ascends : ℕ → List ℕ → Type 0 where
+  no-number : {lo : ℕ} → Ascends lo []
+  a-number : {lo x : ℕ} {l : List ℕ} → lo < x → Ascends x l → Ascends lo (x ∷ l)
+
+-- No number is sent twice as a proposal number, none twice in a start notice, and no view number is at or below an
+-- earlier one.
+pub record NumbersOnce (left : List Written) : Type 0 where
+  pub proposals : Ascends 0 (picked ofProposal left)
+  pub notices : Ascends 0 (picked ofNotice left)
+  pub views : Ascends 0 (picked ofView left)

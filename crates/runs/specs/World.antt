@@ -12,7 +12,7 @@ use Rattle.records.specs.declared.Report.{Report}
 use Rattle.records.specs.declared.Proposal.{Proposal}
 use Rattle.records.specs.declared.View.{View}
 use Rattle.rules.specs.State.{State}
-use Rattle.rules.specs.Rules.{Written, notice, proposal, view, netAfter, receives}
+use Rattle.rules.specs.Rules.{Written, notice, proposal, view, restarted, netAfter, receives}
 use Rattle.rules.specs.Refusals.{aReport, aProposal, Result, takeOf}
 
 -- A link is a row of proposals, oldest first. With each stands the clock of the event that sent it.
@@ -42,13 +42,22 @@ pub record World : Type 0 where
 unfoldable pub atFirst : (ℕ → State) → (ℕ → ℕ → List Item) → World
 atFirst states links = record { state = states; link = links; clock = 0; log = λ i. [] }
 
+-- What an office has begun when its server loses its current: nothing, a report, or the oldest proposal on the link
+-- from an office.
+pub data Underway : Type 0 where
+  nothing-begun : Underway
+  begun-report : (r : Report) (room : ℕ) → Underway
+  begun-delivery : (from room : ℕ) → Underway
+
 -- Report: one office is handed any joining and any leaving set. Delivery: the oldest proposal on a link is taken off
 -- and handed to the office at its end. Loss: any one proposal on a link is taken off. `room` is the length of the lent
--- output.
+-- output. Cut: one office loses its current when the first `left` records of what it has begun have left, and begins
+-- again at number m.
 pub data WorldEvent : Type 0 where
   report : (office : ℕ) (r : Report) (room : ℕ) → WorldEvent
   delivery : (from to room : ℕ) → WorldEvent
   loss : (from to place : ℕ) → WorldEvent
+  cut : (office : ℕ) (begun : Underway) (left m : ℕ) → WorldEvent
 
 -- what an answer puts on the link to office j
 abbrev pub mail : ℕ → ℕ → List Written → List Item
@@ -108,10 +117,31 @@ abbrev pub delivered : World → ℕ → ℕ → ℕ → List Item → World
 delivered w i j room [] = idle w
 delivered w i j room (x ∷ l) = answered (withLink w i j l) j (proposalAnswer w j (x .proposal) room)
 
+-- what office o writes to the oldest proposal of a row, and what it has begun to write
+abbrev pub frontWrites : World → ℕ → ℕ → List Item → List Written
+frontWrites w o room [] = []
+frontWrites w o room (x ∷ l) = proposalAnswer w o (x .proposal) room .written
+
+unfoldable pub begunWrites : World → ℕ → Underway → List Written
+begunWrites w o nothing-begun = []
+begunWrites w o (begun-report r room) = reportAnswer w o r room .written
+begunWrites w o (begun-delivery i room) = frontWrites w o room (w .link i o)
+
+-- a delivery that was begun has taken its proposal off the link
+unfoldable pub takenUp : World → ℕ → Underway → World
+takenUp w o nothing-begun = w
+takenUp w o (begun-report r room) = w
+takenUp w o (begun-delivery i room) = withLink w i o (without 0 (w .link i o))
+
+-- what had left has joined the links, which stay; all else that the office knew is gone
+unfoldable pub cutAnswer : World → ℕ → Underway → ℕ → ℕ → Result
+cutAnswer w o b left m = record { refusal = 0; written = take left (begunWrites w o b); state = restarted o m }
+
 unfoldable pub next : World → WorldEvent → World
 next w (report o r room) = answered w o (reportAnswer w o r room)
 next w (delivery i j room) = delivered w i j room (w .link i j)
 next w (loss i j place) = idle (withLink w i j (without place (w .link i j)))
+next w (cut o b left m) = answered (takenUp w o b) o (cutAnswer w o b left m)
 
 abbrev pub run : World → List WorldEvent → World
 run = runs next
@@ -130,18 +160,25 @@ pub data Gives (w : World) : WorldEvent → ℕ → Result → Type 0 where
   to-proposal : (i o room : ℕ) (x : Item) (l : List Item) → w .link i o ≡ x ∷ l
       → Gives w (delivery i o room) o (proposalAnswer w o (x .proposal) room)
 
--- what the accepted reports of office i make of the set x by step 1
+-- what the accepted reports of office i make of the set x by step 1; a restart leaves the empty set
 abbrev pub netOne : World → WorldEvent → ℕ → ℕ → ℕ
 netOne w (report o r room) i x = ifb (eqb o i && eqb (reportAnswer w o r room .refusal) 0) (netAfter x r) x
 netOne w (delivery a b room) i x = x
 netOne w (loss a b place) i x = x
+netOne w (cut o b left m) i x = ifb (eqb o i) 0 x
 
 unfoldable pub netBy : World → List WorldEvent → ℕ → ℕ → ℕ
 netBy w [] i x = x
 netBy w (e ∷ es) i x = netBy (next w e) es i (netOne w e i x)
+
+abbrev pub BegunAmong : ℕ → Underway → Type 0
+BegunAmong o nothing-begun = Unit {0}
+BegunAmong o (begun-report r room) = (r .joining .bits < 2 ^ 64) × (r .leaving .bits < 2 ^ 64)
+BegunAmong o (begun-delivery i room) = (i < 16) × (i ≡ o → ⊥)
 
 -- the event is one of sixteen offices and the links between them, with sets of 64 bits
 abbrev pub Among : WorldEvent → Type 0
 Among (report o r room) = (o < 16) × (r .joining .bits < 2 ^ 64) × (r .leaving .bits < 2 ^ 64)
 Among (delivery i j room) = (i < 16) × (j < 16) × (i ≡ j → ⊥)
 Among (loss i j place) = (i < 16) × (j < 16) × (i ≡ j → ⊥)
+Among (cut o b left m) = (o < 16) × BegunAmong o b

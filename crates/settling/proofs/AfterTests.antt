@@ -19,15 +19,15 @@ use Rattle.rules.specs.State.{Mode, None, Fast, Slow, Slot, slow, kindOf, nothi
 use Rattle.runs.specs.World.{Item, without}
 use Rattle.laws.proofs.Grid.{upd2-same, upd2-other}
 use Rattle.runs.proofs.Links.{snoc-not-nil, snoc-tail}
-use Rattle.runs.proofs.Arrays.{Offices, mailTo, renet, propose, receive, conclude, relink, Match, other, Proposes}
-use Rattle.runs.proofs.Arrays.{Silent, Chosen, joins, starts, Agreed}
+use Rattle.runs.proofs.Arrays.{restart, Offices, mailTo, renet, propose, receive, conclude, relink, Match, other}
+use Rattle.runs.proofs.Arrays.{Proposes, Silent, Chosen, joins, starts, Agreed}
 use Rattle.runs.proofs.Arrays.{SlowTest, not-called, called, not-agreed, agreed, Tests, both, Arrives}
 use Rattle.settling.specs.Statement.{OfA}
 use Rattle.settling.proofs.Invariants.{Done, NoLast, Reported, Losing, HappensFairly, fair-idle, fair-loss}
-use Rattle.settling.proofs.Invariants.{fair-leave, fair-report, fair-store, fair-answer}
+use Rattle.settling.proofs.Invariants.{fair-cut, fair-leave, fair-report, fair-store, fair-answer}
 use Rattle.settling.proofs.Invariants.{Place, on-its-way, is-stored, counted, Core, AfterTests, Inv}
 use Rattle.settling.proofs.LastProposal.{later}
-use Rattle.settling.proofs.Core.{core-later, core-receive, core-report, core-acts}
+use Rattle.settling.proofs.Core.{none-done, core-later, core-receive, core-report, core-acts}
 
 -- where one item taken leaves nothing, it was the last
 without-nil : (n : ℕ) (l : List Item) (x : Item) → without n (l ++ (x ∷ [])) ≡ []
@@ -495,11 +495,19 @@ module _ (A : ℕ) (last : ℕ → ℕ) where
           (λ i n d. v .core .book .made-used i me (old i n d) (r .at-office) n)
           (λ i j n q d e. v .not-arrived i j (old i n d) (old j q e))
 
+  -- where no last report has come
+  pub inv-none : (t : ℕ) (g : Offices) → Core A last t g → ((i : ℕ) → Done A last t i → ⊥) → Inv A last t g
+  inv-none t g c never =
+      record { core = c; tested = λ i d. absurd (never i d); not-arrived = λ i j d e n u l. never i d }
+
   -- every event keeps the invariant
   pub inv-acts : {t n : ℕ} {g h : Offices} → Inv A last t g → HappensFairly A last t n g h → Inv A last (t + 1) h
   inv-acts v (fair-idle n) = inv-later n v
   inv-acts {t} {g = g} v (fair-loss i j place n s) =
       loses-inv A last (t + 1) g i j place (inv-later n v) (core-acts A last (v .core) (fair-loss i j place n s)) s
+  inv-acts {t} v (fair-cut {h = h} me m ws o f u r) =
+      inv-none (t + 1) (restart h me m ws t) (core-acts A last (v .core) (fair-cut me m ws o f u r))
+      (none-done A last f)
   inv-acts {t} {g = g} v (fair-leave me x n a e) =
       let m : last me ≡ t → ⊥ = n me a in
       leaves-inv A last (t + 1) g me x (inv-later n v) (core-acts A last (v .core) (fair-leave me x n a e))

@@ -1,16 +1,20 @@
 -- The settling rule at work: scenarios that fail none of its hypotheses (so that `meets-all` gives them, as it does
--- for the first and the last), small enough to follow by hand. At the end nothing is on its way between the offices,
--- and their latest views are one. Seat 0 is of office 0, seat 4 of office 1, seat 8 of office 2, seat 12 of office 3.
--- {0, 4} is 17, {8} is 256, {0, 4, 8} is 273, {12} is 4096, {0, 12} is 4097.
-use mathlib.Core.Path.{_≡_, refl, ap}
-use mathlib.Core.List.{[], _∷_}
+-- for the first and the last two), small enough to follow by hand. At the end nothing is on its way between the
+-- offices, and their latest views are one. Seat 0 is of office 0, seat 4 of office 1, seat 8 of office 2, seat 12 of
+-- office 3. {0, 4} is 17, {8} is 256, {0, 4, 8} is 273, {12} is 4096, {0, 12} is 4097.
+use mathlib.Core.Path.{_≡_, refl, ap, subst}
+use mathlib.Core.List.{List, [], _∷_}
+use native.Mathlib.Omega.{arith}
 use Rattle.rules.specs.State.{zeros}
-use Rattle.runs.specs.World.{delivery, loss}
-use Rattle.settling.specs.Statement.{Assumed, AllReported}
+use Rattle.records.specs.declared.View.{View}
+use Rattle.runs.specs.World.{delivery, loss, cut}
+use Rattle.runs.specs.Files.{FileEvent, cuts}
+use Rattle.settling.specs.Statement.{OutAndBack, CutsFirst, Assumed, AllReported, Settled, Settles}
 use Rattle.settling.specs.Scenarios.{Scenario, stateIn, linkIn, changeAt}
-use Rattle.settling.proofs.Scenarios.{meets-all, reported}
+use Rattle.settling.proofs.Settling.{settles-with-files}
+use Rattle.settling.proofs.Scenarios.{meets-all, meets-cuts, reported}
 use Rattle.settling.specs.Scenarios.{Summary, summary, no-view, sent-at, change, join, leave, hand, shortRoom}
-use Rattle.settling.specs.Scenarios.{inNone, three}
+use Rattle.settling.specs.Scenarios.{joinBegun, changes, hands, withFiles, inNone, three}
 
 -- 1. Both offices are told of {0, 4}: each proposes with start 1 and number 1. Each takes the other's proposal and
 -- sends view 2.
@@ -217,3 +221,73 @@ repeating-assumed = meets-all repeating (ap (λ (s : Summary). s .fails) repeati
 pub repeating-reported : AllReported 17 (stateIn []) (linkIn []) (repeating .events) (changeAt repeating .place) 3
 unfolding summary
 repeating-reported = reported repeating 1 refl
+
+-- 7. Cuts, out and back. Office 0 has begun a report of {0, 4} and is cut off after four bytes of its first mark: it
+-- begins again at 0. Office 1 proposes {0, 4}, and office 0 stores that. It is cut off in a report again (event 3),
+-- when the mark of 1,000,001 stands over the torn one and the start notice has left: it begins again at the mark, and
+-- office 1's proposal is gone. It proposes with start and number 1,000,002: office 1 sends view 1,000,003, office 0
+-- waits. Then office 1 is told that seat 0 left and joined again (events 6 and 7). Its new proposal has office 0's
+-- number as used: slow agreement is called for, number 1,000,003, and both send view 1,000,005.
+abbrev restarts : Scenario
+restarts =
+    record {
+      set = 17;
+      begun = [];
+      posted = [];
+      events =
+          cut 0 (joinBegun 17) 0 0 ∷ join 1 17 ∷ hand 1 0 ∷ cut 0 (joinBegun 17) 1 1_000_001 ∷ join 0 17 ∷ hand 0 1
+          ∷ leave 1 1 ∷ join 1 1 ∷ hand 1 0 ∷ hand 0 1 ∷ hand 1 0 ∷ [];
+    }
+
+restarts-summary :
+    summary restarts
+    ≡ record {
+      fails = [];
+      point = 8;
+      on-way = 1;
+      offices = 2;
+      bound = 7;
+      delivered = 3;
+      answers = 0 ∷ 0 ∷ 0 ∷ 0 ∷ 0 ∷ 0 ∷ 0 ∷ 0 ∷ 0 ∷ [];
+      left = 0;
+      views = sent-at 10 1_000_005 17 (three 1_000_002 1_000_004 0)
+          ∷ sent-at 9 1_000_005 17 (three 1_000_002 1_000_004 0) ∷ no-view ∷ [];
+    }
+unfolding summary
+restarts-summary = refl
+
+-- the list with files that it is: four actions are four bytes, eleven are a mark and a record
+abbrev restarts-filed : List FileEvent
+restarts-filed =
+    cuts 0 (joinBegun 17) 4 ∷ changes 1 17 0 ∷ hands 1 0 ∷ cuts 0 (joinBegun 17) 11 ∷ changes 0 17 0 ∷ hands 0 1
+    ∷ changes 1 0 1 ∷ changes 1 1 0 ∷ hands 1 0 ∷ hands 0 1 ∷ hands 1 0 ∷ []
+
+restarts-plainly : withFiles restarts-filed ≡ restarts .events
+unfolding withFiles
+restarts-plainly = refl
+
+pub restarts-assumed : Assumed 17 (stateIn []) (linkIn []) (restarts .events) (changeAt restarts .place)
+unfolding summary
+restarts-assumed = meets-all restarts (ap (λ (s : Summary). s .fails) restarts-summary)
+
+pub restarts-reported : AllReported 17 (stateIn []) (linkIn []) (restarts .events) (changeAt restarts .place) 8
+unfolding summary
+restarts-reported = reported restarts 1 refl
+
+pub restarts-cuts : OutAndBack 17 (stateIn []) (linkIn []) (restarts .events) (changeAt restarts .place)
+    × CutsFirst 17 (stateIn []) (linkIn []) (restarts .events) (changeAt restarts .place)
+unfolding summary
+restarts-cuts = meets-cuts restarts (ap (λ (s : Summary). s .fails) restarts-summary)
+
+-- so the rule speaks of it, by request 7's words: at the end the offices have settled
+restarts-rule : Settles 17 (stateIn []) (linkIn []) (restarts .events)
+unfolding withFiles
+restarts-rule = subst (Settles 17 (stateIn []) (linkIn [])) restarts-plainly
+    (settles-with-files 17 (stateIn []) (linkIn []) (λ i. []) restarts-filed (λ i o. refl) .0)
+
+pub restarts-settle :
+    (v : View) × Settled 17 (stateIn []) (linkIn []) (restarts .events) (changeAt restarts .place) 11 v
+unfolding summary
+restarts-settle =
+    restarts-rule (changeAt restarts .place) 8 restarts-assumed (restarts-cuts .0) restarts-reported .1 11
+    (omega arith) (omega arith) refl

@@ -25,7 +25,7 @@ use Rattle.runs.proofs.Arrays.{Offices, mailTo, propose, receive, conclude, rel
 use Rattle.runs.proofs.Arrays.{SlowTest, not-called, called, AgreementTest, not-agreed, agreed, both}
 use Rattle.runs.proofs.Links.{every-without}
 use Rattle.settling.specs.Statement.{between, onWay, OfA}
-use Rattle.settling.proofs.Invariants.{Losing, Inv, HappensFairly, fair-idle, fair-loss, fair-leave}
+use Rattle.settling.proofs.Invariants.{Losing, Inv, HappensFairly, fair-idle, fair-loss, fair-cut, fair-leave}
 use Rattle.settling.proofs.Invariants.{fair-report, fair-store, fair-answer}
 use Rattle.settling.proofs.Count.{total, total-link, total-else, total-grow, total-mono, total-length, over}
 use Rattle.settling.proofs.Count.{over-one, over-bound, isOld, older, older-length, older-snoc, older-without}
@@ -248,6 +248,7 @@ module _ (A : ℕ) (last : ℕ → ℕ) (T P : ℕ) (reported : (i : ℕ) → Of
       → Goes (d + n) h
   acted inv ht (fair-idle _) (r, s, q) = (_, _, weaker (omega arith) (omega arith) q)
   acted inv ht (fair-loss i j place _ b) (r, s, q) = (_, _, weaker (omega arith) (omega arith) (lost i j place b q))
+  acted inv ht (fair-cut me m ws o f u r) q = let x = f me o in absurd (still o ht (omega arith))
   acted inv ht (fair-leave me x _ a o) q = absurd (still a ht o)
   acted inv ht (fair-report me x p b u) q = absurd (still (b .at-office) ht (b .open-yet))
   acted {d = d} {g = g} inv ht (fair-store me i p l _ b no-match) (r, s, q) = go (serves A i) refl

@@ -7,13 +7,16 @@ use Rattle.laws.proofs.Upd.{upd-same}
 use Rattle.seats.specs.Offices.{serves}
 use Rattle.records.specs.declared.Proposal.{Proposal}
 use Rattle.rules.specs.State.{Mode, Fast, Slow, slow}
-use Rattle.runs.specs.World.{Item, without}
-use Rattle.runs.proofs.Arrays.{Offices, Arrives, Proposes, renet, propose, receive, conclude, relink}
+use Rattle.runs.specs.World.{Item, Underway, without}
+use Rattle.runs.proofs.Arrays.{Numbers, restart, TakesUp, takes-nothing, takes-front, Offices, Arrives, Proposes}
+use Rattle.runs.proofs.Arrays.{renet, propose, receive, conclude, relink}
 use Rattle.runs.proofs.Arrays.{SlowTest, not-called, called, not-agreed, agreed, Tests, both}
 use Rattle.runs.proofs.Numbers.{numbers-renet, numbers-relink, numbers-receive, numbers-propose, numbers-conclude}
+use Rattle.runs.proofs.Numbers.{numbers-restart}
 use Rattle.settling.specs.Statement.{OfA}
-use Rattle.settling.proofs.Invariants.{NoLast, Core, Proposing, Reported, Concluding, Losing, HappensFairly}
-use Rattle.settling.proofs.Invariants.{fair-idle, fair-loss, fair-leave, fair-report, fair-store, fair-answer}
+use Rattle.settling.proofs.Invariants.{Done, NoLast, Core, Proposing, Reported, Concluding, Losing}
+use Rattle.settling.proofs.Invariants.{HappensFairly, fair-idle, fair-loss, fair-cut, fair-leave, fair-report}
+use Rattle.settling.proofs.Invariants.{fair-store, fair-answer}
 use Rattle.settling.proofs.LastProposal.{book-later, renet-book, relink-book, receive-book, propose-book}
 use Rattle.settling.proofs.LastProposal.{conclude-book}
 use Rattle.settling.proofs.Rounds.{rounds-later, renet-rounds, relink-rounds, receive-rounds, propose-rounds}
@@ -111,9 +114,46 @@ module _ (A : ℕ) (last : ℕ → ℕ) where
   core-tests {t} c o (both s (agreed a)) =
       core-conclude t (core-slow-test c o s) (record { at-office = o; all-agree = a })
 
+  -- where no last report has come, only the numbers are to be kept
+  pub core-none : (t : ℕ) (g : Offices) → Numbers (serves A) g → ((i : ℕ) → Done A last t i → ⊥) → Core A last t g
+  core-none t g n never = record {
+    numbers = n;
+    book = record {
+      net-A = λ i d. absurd (never i d);
+      made-A = λ i d. absurd (never i d);
+      made-num = λ i d. absurd (never i d);
+      made-kind = λ i d. absurd (never i d);
+      place = λ i j d b n. absurd (never i d);
+      made-used = λ i j d b n. absurd (never i d);
+    };
+    rounds = record {
+      own-stored = λ i d m. absurd (never i d);
+      own-kind = λ i d m. absurd (never i d);
+      own-used = λ i j d b n m. absurd (never i d);
+      viewed = λ i d m. absurd (never i d);
+      viewed-own = λ i d m. absurd (never i d);
+      counts = λ i j d e n m u. absurd (never i d);
+      slow-used = λ i j d b n m k. absurd (never i d);
+      not-behind = λ i j d b n k u. absurd (never i d);
+      tells-above = λ i j d b n k. absurd (never i d);
+    };
+  }
+
+  -- a cut
+  numbers-taken : {me : ℕ} {b : Underway} {g h : Offices} → Numbers (serves A) g → TakesUp (serves A) me b g h
+      → Numbers (serves A) h
+  numbers-taken n takes-nothing = n
+  numbers-taken {me = me} {g = g} n (takes-front {i = i} f) = numbers-relink (serves A) g i me 0 n
+
+  pub none-done : {t : ℕ} → ((i : ℕ) → OfA A i → t < last i) → (i : ℕ) → Done A last (t + 1) i → ⊥
+  none-done f i d = let l = f i (d .0) in let m = d .1 in omega arith
+
   pub core-acts : {t n : ℕ} {g h : Offices} → Core A last t g → HappensFairly A last t n g h → Core A last (t + 1) h
   core-acts c (fair-idle n) = core-later n c
   core-acts c (fair-loss i j place n k) = core-later n (core-relink c k)
+  core-acts {t} c (fair-cut {h = h} me m ws o f u r) =
+      core-none (t + 1) (restart h me m ws t)
+      (numbers-restart (serves A) h me m ws t (numbers-taken (c .numbers) u) o r) (none-done f)
   core-acts c (fair-leave me x n o e) = core-later n (core-renet c me x e)
   core-acts c (fair-report me x p r s) = core-tests (core-report c r) (r .at-office) s
   core-acts c (fair-store me i p l n k d) = core-later n (core-receive c k)

@@ -17,14 +17,15 @@ use Rattle.records.specs.declared.Report.{Report}
 use Rattle.records.specs.declared.Proposal.{Proposal}
 use Rattle.rules.specs.State.{Mode, Fast}
 use Rattle.rules.specs.Refusals.{Result}
-use Rattle.runs.specs.World.{Item, World, WorldEvent, report, delivery, loss, next, Gives, to-report, Among}
-use Rattle.runs.proofs.Arrays.{Offices, Barred, renet, propose, conclude, Arrives, Apart}
-use Rattle.runs.proofs.Arrays.{SlowTest, not-called, called, not-agreed, agreed, Tests, both}
-use Rattle.runs.proofs.Arrays.{Happens, idles, refuses, repeated, loses, drops, leaves, reports, stores, answers}
+use Rattle.runs.specs.World.{Item, World, Underway, WorldEvent, report, delivery, loss, cut, next, Gives, to-report}
+use Rattle.runs.specs.World.{Among}
+use Rattle.runs.proofs.Arrays.{Offices, Barred, renet, propose, conclude, Arrives, Apart, SlowTest, not-called, called}
+use Rattle.runs.proofs.Arrays.{not-agreed, agreed, Tests, both, Happens, idles, refuses, repeated, loses, drops}
+use Rattle.runs.proofs.Arrays.{leaves, reports, stores, answers, restarts-apart, restarts, takes-nothing, takes-front}
 use Rattle.runs.proofs.WorldArrays.{SeenAll, below-sixteen}
 use Rattle.settling.specs.Statement.{between, deliveryOne, OfA}
-use Rattle.settling.proofs.Invariants.{NoLast, NoLastBut, HappensFairly, fair-idle, fair-loss, fair-leave}
-use Rattle.settling.proofs.Invariants.{fair-report, fair-store, fair-answer}
+use Rattle.settling.proofs.Invariants.{NoLast, NoLastBut, HappensFairly, fair-idle, fair-loss, fair-cut}
+use Rattle.settling.proofs.Invariants.{fair-leave, fair-report, fair-store, fair-answer}
 
 -- the tests leave the net view
 slow-net : {t me : ℕ} {g h : Offices} → SlowTest t me g h → h .net ≡ g .net
@@ -84,6 +85,8 @@ module _ (A : ℕ) (last : ℕ → ℕ) where
     pub is-last : (i : ℕ) → OfA A i → last i ≡ w .clock → (r : Report) × (room : ℕ) × (e ≡ report i r room)
         × Renewed w e i
     pub final : (i : ℕ) → OfA A i → last i ≡ w .clock → next w e .state i .net .bits ≡ A
+    pub cuts-first : (o : ℕ) (b : Underway) (left m : ℕ) → OfA A o → e ≡ cut o b left m → (i : ℕ) → OfA A i
+        → w .clock < last i
 
   not-barred : {w : World} {e : WorldEvent} {i : ℕ} {r : Result} → Fair w e → OfA A i → Gives w e i r → Barred r → ⊥
   not-barred f o g (inl e) = f .answers _ _ o g .0 e
@@ -109,6 +112,12 @@ module _ (A : ℕ) (last : ℕ → ℕ) where
     due-at-loss i j place f a q e = let z = f .is-last a q e in never (z .2)
       where
         never : {r : Report} {a y : ℕ} → loss i j place ≡ report a r y → ⊥
+        never e = let z : _≡_ {A = ℕ} 0 1 = cc in omega arith
+
+    due-at-cut : (o : ℕ) (b : Underway) (left m : ℕ) → Fair w (cut o b left m) → NoLast A last (w .clock)
+    due-at-cut o b left m f a q e = let z = f .is-last a q e in never (z .2)
+      where
+        never : {r : Report} {a y : ℕ} → cut o b left m ≡ report a r y → ⊥
         never e = let z : _≡_ {A = ℕ} 0 1 = cc in omega arith
 
     -- of a report, where it is no last one of me either
@@ -145,6 +154,7 @@ module _ (A : ℕ) (last : ℕ → ℕ) where
     untouched (delivery i j room) m f a =
         rw (counted-out A w i j room a (m .0) (m .1)) (fair-idle (due-at-delivery w i j room f))
     untouched (loss i j place) m f a = fair-idle (due-at-loss w i j place f)
+    untouched (cut o b left k) m f a = absurd a
 
     arrival : (i me room : ℕ) (p : Proposal) (l : List Item) → Arrives (serves A) g me i p l
         → deliveryOne A w (delivery i me room) ≡ ifb (serves A i) 1 0
@@ -175,6 +185,13 @@ module _ (A : ℕ) (last : ℕ → ℕ) where
         rw (counted-out A w i j room (λ a c. absurd (out c)) (m .0) (m .1))
         (fair-loss i j 0 (due-at-delivery w i j room f)
         (record { from-office = k .0; to-office = k .1; others = k .2; early = λ oj. absurd (out oj) }))
+    fair-acts m f (restarts-apart {o = o} {left = left} {m = k} {b = b} out takes-nothing) v =
+        fair-idle (due-at-cut w o b left k f)
+    fair-acts m f (restarts-apart {o = o} {left = left} {m = k} {b = b} out (takes-front {i = i} from)) v =
+        fair-loss i o 0 (due-at-cut w o b left k f)
+        (record { from-office = from .0; to-office = from .1; others = from .2; early = λ oj. absurd (out oj) })
+    fair-acts m f (restarts {me = me} {left = left} {m = k} {b = b} ws o u r) v =
+        fair-cut me k ws o (f .cuts-first me b left k o refl) u r
     fair-acts {h = h} m f (leaves {me = me} {room = room} {r = r} x o c b) v =
         fair-leave me x (none-due w me r room f not-last) o
         (f .not-after me o (renewed (report me r room) (renet g me x) v me o (λ z. c (sym (renet-net g me x) ∙ z))))

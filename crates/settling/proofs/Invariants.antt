@@ -11,9 +11,10 @@ use Rattle.laws.specs.Upd.{ifb}
 use Rattle.seats.specs.Offices.{serves}
 use Rattle.records.specs.declared.Proposal.{Proposal}
 use Rattle.rules.specs.State.{Mode, None, Fast, fast, slow, kindOf, keeping, usedFor}
-use Rattle.runs.specs.World.{Item, SentView, without}
-use Rattle.runs.proofs.Arrays.{Offices, renet, propose, receive, relink, viewWith, Match, Proposes, Silent, Agreed}
-use Rattle.runs.proofs.Arrays.{Tests, Arrives, Numbers}
+use Rattle.rules.specs.Rules.{Written}
+use Rattle.runs.specs.World.{Item, SentView, Underway, without}
+use Rattle.runs.proofs.Arrays.{Offices, restart, Restarts, TakesUp, renet, propose, receive, relink, viewWith, Match}
+use Rattle.runs.proofs.Arrays.{Proposes, Silent, Agreed, Tests, Arrives, Numbers}
 use Rattle.settling.specs.Statement.{OfA}
 
 -- what the two tests leave behind at office i
@@ -67,6 +68,10 @@ module _ (A : ℕ) (last : ℕ → ℕ) where
     fair-idle : {g : Offices} → NoLast t → HappensFairly t 0 g g
     fair-loss : {g : Offices} (i j place : ℕ) → NoLast t → Losing g i j place t
         → HappensFairly t 0 g (relink g i j (without place (g .link i j)))
+    -- a cut of an office of A: every last report is still to come
+    fair-cut : {g h : Offices} {b : Underway} (me m : ℕ) (ws : List Written) → OfA A me
+        → ((i : ℕ) → OfA A i → t < last i) → TakesUp (serves A) me b g h
+        → Restarts h me m ws → HappensFairly t 0 g (restart h me m ws t)
     fair-leave : {g : Offices} (me x : ℕ) → NoLast t → OfA A me → t ≤ last me → HappensFairly t 0 g (renet g me x)
     fair-report : {g h : Offices} (me x : ℕ) (p : Proposal) → Reported g me x t p
         → Tests t me (propose (renet g me x) me Fast p t) h → HappensFairly t 0 g h

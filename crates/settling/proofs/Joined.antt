@@ -77,6 +77,7 @@ module _
     x-above (in-none e) =
         let u = inv .core .rounds .slow-used me i (a .at) (a .from) (λ z. a .others (sym z)) e own-kind in
         let b = inv .core .numbers .used-acc i me (a .from) (a .at .0) (a .others) in
+        let v = inv .core .numbers .acc-got i me (a .from) (a .at .0) (a .others) in
         let c = rising-head (rw (a .oldest) at (inv .core .numbers .rising i me (a .from) (a .at .0) (a .others))) in
         let d : x .proposal .number ≡ p .number = ap (λ (q : Proposal). q .number) (a .same) in
         omega arith

@@ -18,7 +18,7 @@ use Rattle.runs.proofs.Arrays.{Offices, mailTo, renet, propose, receive, conclu
 use Rattle.runs.proofs.Links.{snoc-tail, without-snoc}
 use Rattle.runs.proofs.Proposals.{kinds}
 use Rattle.runs.proofs.Numbers.{itemOf, relink-cases, receive-cases, propose-cases, conclude-cases, said-stored}
-use Rattle.runs.proofs.Numbers.{said-num, said-used}
+use Rattle.runs.proofs.Numbers.{said-num, said-used, numbers-propose}
 use Rattle.settling.specs.Statement.{OfA}
 use Rattle.settling.proofs.Invariants.{Done, NoLast, Proposing, Concluding, Losing, Place, on-its-way}
 use Rattle.settling.proofs.Invariants.{is-stored, counted, Book, Core}
@@ -179,7 +179,11 @@ module _ (A : ℕ) (last : ℕ → ℕ) where
               a f refl refl refl;
           made-used =
               λ a b f. said-done (λ a n q r. OfA A b → (a ≡ b → ⊥) → usedFor q b ≤ said .num b)
-              (λ e. said-used (serves A) g me m p t (h .numbers) (makes .at-office) (makes .makes) b)
+              (λ e ob ne. let u = said-used (serves A) g me m p t (h .numbers) (makes .at-office)
+              (makes .makes) b ob ne in
+              let n = numbers-propose (serves A) g me m p t (h .numbers) (makes .at-office)
+              (makes .makes) .top-num b ob in
+              omega arith)
               (λ a f ob ne. let u = h .book .made-used a b f ob ne in let s = said-num g me m p t (makes .makes) b in
               omega arith)
               a f;

@@ -1,14 +1,25 @@
--- The hypotheses of the settling rule are needed: for each of seven a scenario that fails this one alone. At its end
--- nothing is on its way between offices 0 and 1, and their latest views are not one view of {0, 4} sent since their
--- last reports. (A is {0, 4}, that is 17.)
-use mathlib.Core.Path.{_≡_, refl}
-use mathlib.Core.List.{[], _∷_}
+-- The hypotheses of the settling rule are needed: for each of seven a scenario that fails this one alone, and for the
+-- one on cuts a scenario that fails it in both wordings. At its end nothing is on its way between offices 0 and 1, and
+-- their latest views are not one view of {0, 4} sent since their last reports. (A is {0, 4}, that is 17.)
+use mathlib.Core.Path.{_≡_, refl, sym, ap, subst}
+use mathlib.Core.Bool.{true}
+use mathlib.Core.List.{List, [], _∷_}
+use Prim.Native.Nat.{ℕ, _+_}
+use native.Mathlib.Omega.{arith}
+use lib.ListN.{length}
+use Rattle.laws.proofs.Fin.{true-false}
+use Rattle.seats.specs.Offices.{serves}
+use Rattle.records.specs.declared.View.{View}
 use Rattle.rules.specs.State.{zeros}
-use Rattle.runs.specs.World.{report, delivery, loss}
+use Rattle.runs.specs.World.{SentView, nothing-begun, WorldEvent, report, delivery, loss, cut}
+use Rattle.runs.specs.Files.{cuts}
+use Rattle.settling.specs.Statement.{netAt, OutAndBack, CutsFirst, Assumed, AllReported, Settled, SettlesIf}
+use Rattle.settling.proofs.Changes.{cuts-first as needed-of-cuts}
+use Rattle.settling.proofs.Scenarios.{meets, reported}
 use Rattle.settling.specs.Scenarios.{Scenario, starts-fresh, no-mail, others-pass, net-is-A, full-room}
-use Rattle.settling.specs.Scenarios.{no-ceiling, none-lost}
-use Rattle.settling.specs.Scenarios.{fails, failsByReport, summary, no-view, sent-at, change, join, hand}
-use Rattle.settling.specs.Scenarios.{shortRoom, inNone, three}
+use Rattle.settling.specs.Scenarios.{no-ceiling, none-lost, out-and-back, cuts-first, stateIn, linkIn, changeAt}
+use Rattle.settling.specs.Scenarios.{fails, failsByReport, summary, no-view, sent-at, change, join, leave, hand}
+use Rattle.settling.specs.Scenarios.{joinBegun, changes, hands, withFiles, shortRoom, inNone, three}
 
 -- none-lost: office 0's only proposal is lost after its last report. Office 0 sends view 2, office 1 none.
 abbrev lost-after : Scenario
@@ -258,3 +269,98 @@ forged-summary :
     }
 unfolding summary
 forged-summary = refl
+
+-- out-and-back, and cuts-first: office 0 stores office 1's proposal and is cut off (event 2), when the mark and the
+-- start notice of a report have left. Office 1, whose only report came before the cut, counts the next proposal of
+-- office 0 into view 1,000,003; office 0 has lost the one of office 1 and waits for ever.
+abbrev unheard-cut : Scenario
+unheard-cut =
+    record {
+      set = 17;
+      begun = [];
+      posted = [];
+      events = join 1 17 ∷ hand 1 0 ∷ cut 0 (joinBegun 17) 1 1_000_001 ∷ join 0 17 ∷ hand 0 1 ∷ [];
+    }
+
+unheard-cut-summary :
+    summary unheard-cut
+    ≡ record {
+      fails = out-and-back ∷ cuts-first ∷ [];
+      point = 4;
+      on-way = 1;
+      offices = 2;
+      bound = 7;
+      delivered = 1;
+      answers = 0 ∷ 0 ∷ 0 ∷ 0 ∷ [];
+      left = 0;
+      views = no-view ∷ sent-at 4 1_000_003 17 (three 1_000_002 1 0) ∷ no-view ∷ [];
+    }
+unfolding summary
+unheard-cut-summary = refl
+
+unheard-cut-plainly :
+    withFiles (changes 1 17 0 ∷ hands 1 0 ∷ cuts 0 (joinBegun 17) 11 ∷ changes 0 17 0 ∷ hands 0 1 ∷ [])
+    ≡ unheard-cut .events
+unfolding withFiles
+unheard-cut-plainly = refl
+
+-- so all else that the rule assumes holds of it, neither hypothesis on cuts does, and at the end they have not settled
+unheard-cut-assumed : Assumed 17 (stateIn []) (linkIn []) (unheard-cut .events) (changeAt unheard-cut .place)
+unfolding summary
+unheard-cut-assumed = meets unheard-cut refl
+
+unheard-cut-reported : AllReported 17 (stateIn []) (linkIn []) (unheard-cut .events) (changeAt unheard-cut .place) 4
+unfolding summary
+unheard-cut-reported = reported unheard-cut 0 refl
+
+unheard-cut-late : CutsFirst 17 (stateIn []) (linkIn []) (unheard-cut .events) (changeAt unheard-cut .place) → ⊥
+unfolding summary
+unheard-cut-late h =
+    let l = h 2 0 1 (omega arith, refl) (omega arith, refl) (joinBegun 17, 1, 1_000_001, (omega arith, refl)) in
+    let e : changeAt unheard-cut .place 1 ≡ 0 = refl in
+    omega arith
+
+unheard-cut-unheard : OutAndBack 17 (stateIn []) (linkIn []) (unheard-cut .events) (changeAt unheard-cut .place) → ⊥
+unheard-cut-unheard h = unheard-cut-late
+    (needed-of-cuts 17 (stateIn []) (linkIn []) (unheard-cut .events) (changeAt unheard-cut .place)
+    (unheard-cut-assumed .has-last) h)
+
+unheard-cut-waits : (v : View)
+    → Settled 17 (stateIn []) (linkIn []) (unheard-cut .events) (changeAt unheard-cut .place) 5 v → ⊥
+unfolding summary
+unheard-cut-waits v s =
+    let x = s .latest 0 (omega arith, refl) in
+    let n : length (record { view = v; sent = x .0 } ∷ x .1) ≡ 0 = ap (λ (l : List SentView). length l) (sym (x .2)) in
+    omega arith
+
+-- so the rule does not hold under any hypothesis on cuts that this list meets
+unheard-cut-needed : (Cuts : (ℕ → ℕ) → Type 0) → Cuts (changeAt unheard-cut .place)
+    → SettlesIf 17 (stateIn []) (linkIn []) (unheard-cut .events) Cuts → ⊥
+unfolding summary
+unheard-cut-needed Cuts h rule =
+    let x = rule (changeAt unheard-cut .place) 4 unheard-cut-assumed h unheard-cut-reported .1 5 (omega arith)
+    (omega arith) refl in
+    unheard-cut-waits (x .0) (x .1)
+
+-- request 7's words do not cover a cut after the office's own last report, nor one after which the others only hear
+-- that its seats left
+late-cut : (last : ℕ → ℕ) → last 0 ≡ 0
+    → OutAndBack 17 (stateIn []) (linkIn []) (join 0 17 ∷ cut 0 nothing-begun 0 1_000_001 ∷ []) last → ⊥
+unfolding summary
+late-cut last e h =
+    let l = h .before-last 1 0 (omega arith, refl) (nothing-begun, 0, 1_000_001, (omega arith, refl)) in omega arith
+
+abbrev only-out : List WorldEvent
+only-out = join 1 17 ∷ cut 0 nothing-begun 0 0 ∷ leave 1 1 ∷ leave 1 1 ∷ []
+
+never-back : (last : ℕ → ℕ) → OutAndBack 17 (stateIn []) (linkIn []) only-out last → ⊥
+unfolding summary
+never-back last h =
+    let x = h .out-and-back 1 0 1 (omega arith, refl) (omega arith, refl) (λ e. omega arith)
+    (nothing-begun, 0, 0, (omega arith, refl)) in
+    let a = x .2 in
+    let b = x .3 in
+    let c = x .5 .0 .2 .0 in
+    let e : x .1 ≡ 3 = omega arith in
+    true-false (serves (netAt 17 (stateIn []) (linkIn []) only-out 1 4) 0)
+    (subst (λ (n : ℕ). serves (netAt 17 (stateIn []) (linkIn []) only-out 1 (n + 1)) 0 ≡ true) e (x .5 .1)) refl

@@ -13,8 +13,8 @@ use Rattle.runs.specs.World.{Item, without}
 use Rattle.laws.proofs.Grid.{upd2-cases}
 use Rattle.runs.proofs.Arrays.{Offices, receive, relink}
 use Rattle.settling.specs.Statement.{between, onWay, OfA}
-use Rattle.settling.proofs.Invariants.{Inv, HappensFairly, fair-idle, fair-loss, fair-leave, fair-report}
-use Rattle.settling.proofs.Invariants.{fair-store, fair-answer}
+use Rattle.settling.proofs.Invariants.{Inv, HappensFairly, fair-idle, fair-loss, fair-cut, fair-leave}
+use Rattle.settling.proofs.Invariants.{fair-report, fair-store, fair-answer}
 
 two-of-A : (A i j : ℕ) → OfA A i → OfA A j → (i ≡ j → ⊥) → between A i j ≡ true
 two-of-A A i j a b n = rw (a .1, b .1, ne-eqb i j n)
@@ -64,6 +64,7 @@ module _ (A : ℕ) (last : ℕ → ℕ) (t : ℕ) (all-done : (i : ℕ) → OfA 
       unfold relink in upd2-cases (λ (i j : ℕ) (k : List Item). OfA A i → OfA A j → (i ≡ j → ⊥) → k ≡ [])
       (g .link) a b _ i j
       (λ p q m. ap (without place) (e a b p q m)) (λ o p q m. e i j p q m) p q m
+  quiet-acts v e (fair-cut me m ws o f u r) = let l = all-done me o in let x = f me o in absurd (omega arith)
   quiet-acts v e (fair-leave me x _ q f) = let l = all-done me q in absurd (omega arith)
   quiet-acts v e (fair-report me x p r k) = let l = all-done me (r .at-office) in let o = r .open-yet in
       absurd (omega arith)

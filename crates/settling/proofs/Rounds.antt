@@ -76,6 +76,8 @@ module _ (A : ℕ) (last : ℕ → ℕ) where
     unused j dj n e =
         let a = h .numbers .used-acc me j (k .at-office) dj n in
         let b = rising-le (h .numbers .rising me j (k .at-office) dj n) in
+        let u = h .numbers .acc-got me j (k .at-office) dj n in
+        let v = h .numbers .top-num me (k .at-office) in
         let c = k .makes .above in
         omega arith
 
@@ -84,6 +86,7 @@ module _ (A : ℕ) (last : ℕ → ℕ) where
         → Every (λ x. usedFor (x .proposal) me ≡ p .number → p .number < x .proposal .number) (g .link j me)
     untold j dj n =
         let c = k .makes .above in
+        let v = h .numbers .top-num me (k .at-office) in
         every-map (λ x l e. absurd (omega arith)) (h .numbers .told j me dj (k .at-office) (λ e. n (sym e)))
 
     -- where it tells of a slow proposal, it is above that
@@ -154,6 +157,8 @@ module _ (A : ℕ) (last : ℕ → ℕ) where
         go (on-its-way l x w f s) =
             let a = rising-last l x (rw w at (h .numbers .rising i me (di .0) (k .at-office) n)) in
             let b = h .numbers .kept i me (di .0) (k .at-office) n there in
+            let u = h .numbers .acc-got i me (di .0) (k .at-office) n in
+            let m = ap (λ (p : Proposal). p .number) f ∙ h .book .made-num i di in
             let c : g .stored me i .proposal .number ≡ g .num i = rw there at e in
             absurd (omega arith)
         go (is-stored w f) = f

@@ -1,29 +1,35 @@
 -- A scenario that fails no test meets the hypotheses of the settling rule.
 use mathlib.Core.Path.{_≡_, refl, ap, subst, _∙_}
 use mathlib.Core.Bool.{Bool, true, false, _&&_, _||_, not, false≢true}
-use mathlib.Core.List.{List, [], _∷_}
+use mathlib.Core.Logic.{_⊎_, inl, inr, ⊎-elim}
+use mathlib.Core.List.{List, [], _∷_, _++_}
 use Prim.Native.Nat.{ℕ, zero, suc, _+_, _-_, _^_, _<_}
 use native.Mathlib.Omega.{arith}
 use native.Mathlib.Numerals.{add-one}
 use lib.ListN.{length, take, getD, List·getD-map}
 use lib.Dec.{eqb, ltb}
-use borrow.Author.Tests.{ltb-true, eqb-true, eqb-false, not-true}
+use borrow.Author.Tests.{ltb-true, eqb-true, eqb-false, eq-eqb, not-true}
 use Rattle.laws.specs.Lists.{Every, none, more, runs}
-use Rattle.laws.proofs.Fin.{allb-out, and-iff}
+use Rattle.laws.proofs.Fin.{allb-out, and-iff, and-l, and-r, or-cases, true-false}
 use Rattle.laws.specs.Tab.{tab}
 use Rattle.laws.proofs.Tab.{getD-tab}
 use Rattle.laws.specs.Upd.{ifb}
 use Rattle.seats.specs.Offices.{serves}
+use Rattle.laws.proofs.Loops.{same-entry}
+use Rattle.records.specs.declared.Report.{Report}
 use Rattle.rules.specs.Rules.{fresh}
 use Rattle.rules.specs.Refusals.{Result, wellFormed}
-use Rattle.runs.specs.World.{netOne, netBy, Item, World, WorldEvent, report, delivery, loss, next, at, Nth, Gives}
-use Rattle.runs.specs.World.{to-report, to-proposal, Among}
-use Rattle.settling.specs.Statement.{OfA, LastChange, Assumed, AllReported}
+use Rattle.runs.specs.World.{netOne, netBy, Item, World, Underway, nothing-begun, begun-report, begun-delivery}
+use Rattle.runs.specs.World.{BegunAmong, WorldEvent, cut, report, delivery, loss, next, at, Nth, Gives, to-report}
+use Rattle.runs.specs.World.{to-proposal, Among}
+use Rattle.runs.proofs.Places.{clock-first}
+use Rattle.settling.specs.Statement.{OfA, LastChange, OutAndBack, CutsFirst, Assumed, AllReported}
 use Rattle.settling.proofs.Changes.{changes-at}
-use Rattle.settling.specs.Scenarios.{Scenario, NotFresh, Posted, stateIn, linkIn, opening, everywhere, amongb}
-use Rattle.settling.specs.Scenarios.{answersNot, olderAt, losesOld, Followed, notYet, follow, followed, points}
-use Rattle.settling.specs.Scenarios.{changeAt, allFresh, noMail, passes, ofEach, Hypothesis, some-seat, holds}
-use Rattle.settling.specs.Scenarios.{hypotheses, failing, fails, reportedLast}
+use Rattle.settling.specs.Scenarios.{Scenario, NotFresh, Posted, stateIn, linkIn, opening, everywhere}
+use Rattle.settling.specs.Scenarios.{begunAmongb, amongb, answersNot, olderAt, losesOld, reportsTo, cutsEarly}
+use Rattle.settling.specs.Scenarios.{cutsFirst, cutsOff, backIn, outAndBackIn, afterCuts, Followed, notYet}
+use Rattle.settling.specs.Scenarios.{follow, followed, points, changeAt, allFresh, noMail, passes, ofEach}
+use Rattle.settling.specs.Scenarios.{Hypothesis, some-seat, holds, assumed, ofCuts, failing, fails, reportedLast}
 
 not-or : (a b : Bool) → a ≡ true → not a || b ≡ true → b ≡ true
 not-or true b t e = e
@@ -50,6 +56,14 @@ two-offices i j h =
     let b = and-iff (ltb j 16) (not (eqb i j)) .0 (a .1) in
     (ltb-true i 16 (a .0), ltb-true j 16 (b .0), differ i j (b .1))
 
+begun-among : (o : ℕ) (b : Underway) → begunAmongb o b ≡ true → BegunAmong o b
+begun-among o nothing-begun h = tt
+begun-among o (begun-report r room) h =
+    let a = and-iff (ltb (r .joining .bits) (2 ^ 64)) (ltb (r .leaving .bits) (2 ^ 64)) .0 h in
+    (ltb-true _ (2 ^ 64) (a .0), ltb-true _ (2 ^ 64) (a .1))
+begun-among o (begun-delivery i room) h =
+    let a = and-iff (ltb i 16) (not (eqb i o)) .0 h in (ltb-true i 16 (a .0), differ i o (a .1))
+
 is-among : (w : World) (e : WorldEvent) → amongb w e ≡ true → Among e
 is-among w (report o r room) h =
     let x = r .joining .bits in
@@ -59,6 +73,8 @@ is-among w (report o r room) h =
     (ltb-true o 16 (a .0), ltb-true x (2 ^ 64) (b .0), ltb-true y (2 ^ 64) (b .1))
 is-among w (delivery i j room) h = two-offices i j h
 is-among w (loss i j place) h = two-offices i j h
+is-among w (cut o b left m) h =
+    let a = and-iff (ltb o 16) (begunAmongb o b) .0 h in (ltb-true o 16 (a .0), begun-among o b (a .1))
 
 never : (x c : ℕ) (w : World) (e : WorldEvent) → answersNot x c w e ≡ true
     → (i : ℕ) (r : Result) → serves x i ≡ true → Gives w e i r → r .refusal ≡ c → ⊥
@@ -69,6 +85,111 @@ older : (t n : ℕ) (l : List Item) → olderAt t n l ≡ true → (y : Item) �
 older t n [] h y lt e = absurd (omega arith)
 older t zero (z ∷ l) h y lt e = rw (← e) (ltb-true (z .sent) t h)
 older t (suc n) (z ∷ l) h y lt e = older t n l h y (omega arith) e
+
+-- event n of the list is a cut of office r
+abbrev CutIn : List WorldEvent → ℕ → ℕ → Type 0
+CutIn es n r = (b : Underway) × (left : ℕ) × (m : ℕ) × Nth es n (cut r b left m)
+
+-- What office j hears of office r after its cuts.
+module _ (j r : ℕ) where
+  -- event n is a report to j, after which a seat of r is in its net view, or none is; it is x before the list
+  abbrev Heard : World → List WorldEvent → ℕ → Bool → ℕ → Type 0
+  Heard w es x t n = ((q : Report) × (room : ℕ) × Nth es n (report j q room))
+      × (serves (netBy w (take (suc n) es) j x) r ≡ t)
+
+  here : (w : World) (e : WorldEvent) (es : List WorldEvent) (x : ℕ) (t : Bool) → reportsTo j e ≡ true
+      → serves (netOne w e j x) r ≡ t → Heard w (e ∷ es) x t 0
+  unfolding netBy
+  here w (report o q room) es x t h s =
+      ((q, room, (omega arith, ap (λ (o : ℕ). report o q room) (eqb-true o j h))), s)
+  here w (delivery a b room) es x t h s = absurd (false≢true h)
+  here w (loss a b place) es x t h s = absurd (false≢true h)
+  here w (cut o b left m) es x t h s = absurd (false≢true h)
+
+  later : (w : World) (e : WorldEvent) (es : List WorldEvent) (x : ℕ) (t : Bool) (n : ℕ)
+      → Heard (next w e) es (netOne w e j x) t n → Heard w (e ∷ es) x t (suc n)
+  unfolding netBy
+  later w e es x t n h =
+      let lt = h .0 .2 .0 in ((h .0 .0, h .0 .1, (omega arith, h .0 .2 .1)), h .1)
+
+  back-in : (w : World) (es : List WorldEvent) (x : ℕ) → backIn j r w es x ≡ true → (b : ℕ) × Heard w es x true b
+  unfolding backIn
+  back-in w [] x h = absurd (false≢true h)
+  back-in w (e ∷ es) x h = go (or-cases (reportsTo j e && serves y r) (backIn j r (next w e) es y) h)
+      (back-in (next w e) es y)
+    where
+      y : ℕ
+      y = netOne w e j x
+
+      go : (reportsTo j e && serves y r ≡ true) ⊎ (backIn j r (next w e) es y ≡ true)
+          → (backIn j r (next w e) es y ≡ true → (b : ℕ) × Heard (next w e) es y true b)
+          → (b : ℕ) × Heard w (e ∷ es) x true b
+      go (inl a) ih = let c = and-iff (reportsTo j e) (serves y r) .0 a in (0, here w e es x true (c .0) (c .1))
+      go (inr a) ih = let c = ih a in (suc (c .0), later w e es x true (c .0) (c .1))
+
+  out-back-in : (w : World) (es : List WorldEvent) (x : ℕ) → outAndBackIn j r w es x ≡ true
+      → (a b : ℕ) × (a < b) × Heard w es x false a × Heard w es x true b
+  unfolding outAndBackIn
+  out-back-in w [] x h = absurd (false≢true h)
+  out-back-in w (e ∷ es) x h = go (or-cases (reportsTo j e && out) (outAndBackIn j r (next w e) es y) h)
+      (out-back-in (next w e) es y)
+    where
+      y : ℕ
+      y = netOne w e j x
+
+      out : Bool
+      out = not (serves y r) && backIn j r (next w e) es y
+
+      go : (reportsTo j e && out ≡ true) ⊎ (outAndBackIn j r (next w e) es y ≡ true)
+          → (outAndBackIn j r (next w e) es y ≡ true
+          → (a b : ℕ) × (a < b) × Heard (next w e) es y false a × Heard (next w e) es y true b)
+          → (a b : ℕ) × (a < b) × Heard w (e ∷ es) x false a × Heard w (e ∷ es) x true b
+      go (inl a) ih =
+          let c = and-iff (reportsTo j e) out .0 a in
+          let d = and-iff (not (serves y r)) (backIn j r (next w e) es y) .0 (c .1) in
+          let b = back-in (next w e) es y (d .1) in (
+            0,
+            suc (b .0),
+            omega arith,
+            here w e es x false (c .0) (not-true (serves y r) (d .0)),
+            later w e es x true (b .0) (b .1),
+          )
+      go (inr a) ih =
+          let c = ih a in
+          let l = c .2 in
+          (suc (c .0), suc (c .1), omega arith, later w e es x false (c .0) (c .3), later w e es x true (c .1) (c .4))
+
+  after-cuts : (w : World) (es : List WorldEvent) (x : ℕ) → afterCuts j r w es x ≡ true → (n : ℕ) → CutIn es n r
+      → (a b : ℕ) × (n < a) × (a < b) × Heard w es x false a × Heard w es x true b
+  unfolding afterCuts
+  after-cuts w [] x h n c = absurd (let q = c .3 .0 in omega arith)
+  after-cuts w (e ∷ es) x h zero c =
+      let y = netOne w e j x in
+      let k : cutsOff r e ≡ true = rw (c .3 .1) (eq-eqb r r refl) in
+      let a = and-l (not (cutsOff r e) || outAndBackIn j r (next w e) es y) (afterCuts j r (next w e) es y) h in
+      let d = out-back-in (next w e) es y (not-or (cutsOff r e) _ k a) in
+      let l = d .2 in (
+        suc (d .0),
+        suc (d .1),
+        omega arith,
+        omega arith,
+        later w e es x false (d .0) (d .3),
+        later w e es x true (d .1) (d .4),
+      )
+  after-cuts w (e ∷ es) x h (suc n) c =
+      let y = netOne w e j x in
+      let q = c .3 .0 in
+      let i = and-r (not (cutsOff r e) || outAndBackIn j r (next w e) es y) (afterCuts j r (next w e) es y) h in
+      let d = after-cuts (next w e) es y i n (c .0, c .1, c .2, (omega arith, c .3 .1)) in
+      let l = d .2 in
+      let m = d .3 in (
+        suc (d .0),
+        suc (d .1),
+        omega arith,
+        omega arith,
+        later w e es x false (d .0) (d .4),
+        later w e es x true (d .1) (d .5),
+      )
 
 -- The pass over the events, as one office sees it.
 module _ (i : ℕ) where
@@ -139,13 +260,27 @@ last-found p i lt h = go (ended i (opening p) es 0 notYet)
     Last : ℕ → Type 0
     Last = LastChange (p .set) (stateIn (p .begun)) (linkIn (p .posted)) es i
 
+    -- there is such a point, and a report just before it
+    found : (ltb 0 (getD (points p) i 0) ≡ true)
+        × (reportsTo i (getD es (getD (points p) i 0 - 1) (loss 0 0 0)) ≡ true)
+    found = and-iff (ltb 0 (getD (points p) i 0)) (reportsTo i (getD es (getD (points p) i 0 - 1) (loss 0 0 0))) .0 h
+
+    -- so no cut
+    no-cut : (k : ℕ) → k ≡ getD (points p) i 0 - 1 → (b : Underway) (left m : ℕ) → Nth es k (cut i b left m) → ⊥
+    no-cut k e b left m x =
+        let t : reportsTo i (getD es k (loss 0 0 0)) ≡ true = rw e (found .1) in
+        let y : getD es k (loss 0 0 0) ≡ cut i b left m =
+        same-entry es k (loss 0 0 0) (cut i b left m) (x .0) ∙ x .1 in
+        true-false false (rw y at t) refl
+
     go : Ended i (opening p) es 0 notYet (followOn i (opening p) es 0 notYet) → Last (getD (points p) i 0 - 1)
-    go (unchanged q n) = let a = ltb-true 0 (getD (points p) i 0) h in let b = at-end in absurd (omega arith)
+    go (unchanged q n) = let a = ltb-true 0 (getD (points p) i 0) (found .0) in let b = at-end in absurd (omega arith)
     go (changed k l q m n) =
         let b = at-end in
         let e : k ≡ getD (points p) i 0 - 1 = omega arith in
         subst Last e (
-          changes-at (p .set) (stateIn (p .begun)) (linkIn (p .posted)) es k i l (rw add-one m),
+          ⊎-elim (λ c. c) (λ c. absurd (no-cut k e (c .0) (c .1) (c .2) (c .3)))
+              (changes-at (p .set) (stateIn (p .begun)) (linkIn (p .posted)) es k i l (rw add-one m)),
           λ j a x. n j (x .0 .2 .0) a (rw add-one at (x .1)),
         )
 
@@ -197,11 +332,22 @@ none-failing t (x ∷ xs) e n lt = go (t x) refl n lt (none-failing t xs)
     go false q n lt ih = let z : x ∷ failing t xs ≡ [] = rw q at e in let y : _≡_ {A = ℕ} 0 1 = cc in
         absurd (omega arith)
 
--- a scenario that fails none meets-all the hypotheses of the rule
-module _ (p : Scenario) (e : fails p ≡ []) where
-  test : (n : ℕ) → ltb n 11 ≡ true → holds p (changeAt p) (getD hypotheses n some-seat) ≡ true
-  unfolding fails
-  test n lt = none-failing (holds p (changeAt p)) hypotheses e n (ltb-true n 11 lt)
+-- of two lists that fail none together, neither does by itself
+both-none : (t : Hypothesis → Bool) (xs ys : List Hypothesis) → failing t (xs ++ ys) ≡ []
+    → (failing t xs ≡ []) × (failing t ys ≡ [])
+both-none t [] ys e = (refl, e)
+both-none t (x ∷ xs) ys e = go (t x) refl (both-none t xs ys)
+  where
+    go : (b : Bool) → t x ≡ b → (failing t (xs ++ ys) ≡ [] → (failing t xs ≡ []) × (failing t ys ≡ []))
+        → (failing t (x ∷ xs) ≡ []) × (failing t ys ≡ [])
+    go true q ih = rw q (ih (rw q at e))
+    go false q ih = let z : x ∷ failing t (xs ++ ys) ≡ [] = rw q at e in let y : _≡_ {A = ℕ} 0 1 = cc in
+        absurd (omega arith)
+
+-- a scenario that fails none of the first hypotheses meets what the rule assumes of any list
+module _ (p : Scenario) (e : failing (holds p (changeAt p)) assumed ≡ []) where
+  test : (n : ℕ) → ltb n 11 ≡ true → holds p (changeAt p) (getD assumed n some-seat) ≡ true
+  test n lt = none-failing (holds p (changeAt p)) assumed e n (ltb-true n 11 lt)
 
   abbrev A : ℕ
   A = p .set
@@ -236,9 +382,9 @@ module _ (p : Scenario) (e : fails p ≡ []) where
       let t = everywhere-out (losesOld A last) w es (test 10 refl) n (loss i j place) x in
       not-or (serves A j) _ (b .1) (not-or (serves A i) _ (a .1) t)
 
-  pub meets-all : Assumed A (stateIn (p .begun)) (linkIn (p .posted)) es last
+  pub meets : Assumed A (stateIn (p .begun)) (linkIn (p .posted)) es last
   unfolding holds
-  meets-all =
+  meets =
       let s = and-iff (ltb 0 A) (ltb A (2 ^ 64)) .0 (test 0 refl) in
       record {
         some-seat = (ltb-true 0 A (s .0), ltb-true A (2 ^ 64) (s .1));
@@ -255,6 +401,61 @@ module _ (p : Scenario) (e : fails p ≡ []) where
             (everywhere-out (answersNot A 13) w es (test 9 refl) n e x) i r (o .1);
         none-lost = λ n i j place y a b x. older (last i) place (at w es n .link i j) (kept n i j place a b x) y;
       }
+
+-- one that fails none at all meets that and what the rule assumes of its cuts
+module _ (p : Scenario) (e : fails p ≡ []) where
+  apart : (failing (holds p (changeAt p)) assumed ≡ []) × (failing (holds p (changeAt p)) ofCuts ≡ [])
+  unfolding fails
+  apart = both-none (holds p (changeAt p)) assumed ofCuts e
+
+  pub meets-all : Assumed (p .set) (stateIn (p .begun)) (linkIn (p .posted)) (p .events) (changeAt p .place)
+  meets-all = meets p (apart .0)
+
+  cut-test : (n : ℕ) → ltb n 3 ≡ true → holds p (changeAt p) (getD ofCuts n some-seat) ≡ true
+  cut-test n lt = none-failing (holds p (changeAt p)) ofCuts (apart .1) n (ltb-true n 3 lt)
+
+  clock-is : (n : ℕ) → n < length (p .events) → at (opening p) (p .events) n .clock ≡ n
+  clock-is n lt = clock-first (stateIn (p .begun)) (linkIn (p .posted)) (p .events) n (omega arith)
+
+  own-last : (n r : ℕ) → OfA (p .set) r → CutIn (p .events) n r → n < changeAt p .place r
+  unfolding holds
+  own-last n r q c =
+      let x = p .set in
+      let last = changeAt p .place in
+      let t = everywhere-out (cutsEarly x last) (opening p) (p .events) (cut-test 0 refl) n _ (c .3) in
+      let l = ltb-true _ (last r) (not-or (serves x r) _ (q .1) t) in
+      let k = clock-is n (c .3 .0) in omega arith
+
+  every-last : CutsFirst (p .set) (stateIn (p .begun)) (linkIn (p .posted)) (p .events) (changeAt p .place)
+  unfolding holds
+  every-last n r i q o c =
+      let x = p .set in
+      let last = changeAt p .place in
+      let t = everywhere-out (cutsFirst x last) (opening p) (p .events) (cut-test 2 refl) n _ (c .3) in
+      let u = of-each x (λ i. ltb (at (opening p) (p .events) n .clock) (last i)) (not-or (serves x r) _ (q .1) t) in
+      let l = ltb-true _ (last i) (u i (o .0) (o .1)) in
+      let k = clock-is n (c .3 .0) in omega arith
+
+  hears : (r j : ℕ) → OfA (p .set) r → OfA (p .set) j → (j ≡ r → ⊥)
+      → afterCuts j r (opening p) (p .events) 0 ≡ true
+  unfolding holds
+  hears r j q o d =
+      let heard : ℕ → ℕ → Bool = λ r j. eqb j r || afterCuts j r (opening p) (p .events) 0 in
+      let u = of-each (p .set) (λ r. ofEach (p .set) (heard r)) (cut-test 1 refl) r (q .0) (q .1) in
+      ⊎-elim (λ e. absurd (d (eqb-true j r e))) (λ t. t)
+      (or-cases (eqb j r) _ (of-each (p .set) (heard r) u j (o .0) (o .1)))
+
+  pub meets-cuts : OutAndBack (p .set) (stateIn (p .begun)) (linkIn (p .posted)) (p .events) (changeAt p .place)
+      × CutsFirst (p .set) (stateIn (p .begun)) (linkIn (p .posted)) (p .events) (changeAt p .place)
+  meets-cuts = (
+    record {
+      before-last = own-last;
+      out-and-back = λ n r j q o d c.
+          let x = after-cuts j r (opening p) (p .events) 0 (hears r j q o d) n c in
+          (x .0, x .1, x .2, x .3, (x .4 .0, rw add-one (x .4 .1)), (x .5 .0, rw add-one (x .5 .1)));
+    },
+    every-last,
+  )
 
 pub reported : (p : Scenario) (i : ℕ) → reportedLast p i ≡ true
     → AllReported (p .set) (stateIn (p .begun)) (linkIn (p .posted)) (p .events) (changeAt p .place)

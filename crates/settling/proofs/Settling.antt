@@ -15,9 +15,11 @@ use Rattle.records.specs.declared.View.{View}
 use Rattle.rules.specs.State.{State}
 use Rattle.rules.specs.Refusals.{Result}
 use Rattle.rule_laws.proofs.Steps.{Passes}
-use Rattle.runs.specs.World.{Item, World, atFirst, WorldEvent, report, delivery, next, at, Nth, Gives, to-report}
-use Rattle.runs.specs.World.{to-proposal}
-use Rattle.runs.specs.Begins.{Begins}
+use Rattle.runs.specs.World.{Item, World, atFirst, WorldEvent, report, delivery, loss, cut, next, at, Nth, Gives}
+use Rattle.runs.specs.World.{to-report, to-proposal}
+use Rattle.runs.specs.Begins.{Begins, RestartsAbove}
+use Rattle.runs.specs.Files.{FileEvent, filedFirst, plainly}
+use Rattle.runs.proofs.FilesAbove.{restarts-above}
 use Rattle.runs.proofs.Arrays.{Offices, Numbers, Happens, viewWith}
 use Rattle.runs.proofs.Accepting.{unheard}
 use Rattle.runs.proofs.WorldArrays.{SeenAll, below-sixteen}
@@ -25,50 +27,28 @@ use Rattle.runs.proofs.Start.{atStart, start-numbers}
 use Rattle.runs.proofs.Places.{nth-same, at-next, drop-next, clock-first, along}
 use Rattle.runs.proofs.Runs.{Shown, shown-along, shown-at}
 use Rattle.settling.specs.Statement.{onWay, deliveryOne, deliveries, OfA, netAt, Changes, Assumed, AllReported}
-use Rattle.settling.specs.Statement.{Settled, Settles}
+use Rattle.settling.specs.Statement.{Settled, CutsFirst, SettlesUncut, Settles, SettlesAfterCuts}
+use Rattle.settling.specs.Statement.{SettlesWithFiles}
 use Rattle.settling.proofs.Invariants.{Done, Inv, HappensFairly}
-use Rattle.settling.proofs.AfterTests.{inv-acts}
+use Rattle.settling.proofs.AfterTests.{inv-none, inv-acts}
+use Rattle.settling.proofs.Core.{core-none}
 use Rattle.settling.proofs.Quiet.{quiet-view}
 use Rattle.settling.proofs.Bound.{Goes, at-first, acted, deliveries-bound}
-use Rattle.settling.proofs.Changes.{stays-after, net-at-end}
+use Rattle.settling.proofs.Changes.{stays-after, net-at-end, cuts-first}
 use Rattle.settling.proofs.Fair.{Renewed, Fair, fair-acts}
 use Rattle.runs.proofs.NetView.{unchanged-silent, net-at}
 use Rattle.settling.proofs.OnWay.{Empty, none-on-way, same-way, quiet-acts}
 
 -- before the first event no last report has come
 start-inv : (A : ℕ) (last : ℕ → ℕ) → Inv A last 0 atStart
-start-inv A last = record {
-  core = record {
-    numbers = start-numbers (serves A);
-    book = record {
-      net-A = λ i d. never i d;
-      made-A = λ i d. never i d;
-      made-num = λ i d. never i d;
-      made-kind = λ i d. never i d;
-      place = λ i j d b n. never i d;
-      made-used = λ i j d b n. never i d;
-    };
-    rounds = record {
-      own-stored = λ i d m. never i d;
-      own-kind = λ i d m. never i d;
-      own-used = λ i j d b n m. never i d;
-      viewed = λ i d m. never i d;
-      viewed-own = λ i d m. never i d;
-      counts = λ i j d e n m u. never i d;
-      slow-used = λ i j d b n m k. never i d;
-      not-behind = λ i j d b n k u. never i d;
-      tells-above = λ i j d b n k. never i d;
-    };
-  };
-  tested = λ i d. never i d;
-  not-arrived = λ i j d e n u l. never i d;
-}
+start-inv A last = inv-none A last 0 atStart (core-none A last 0 atStart (start-numbers (serves A)) never) never
   where
-    never : {B : Type 0} (i : ℕ) → Done A last 0 i → B
-    never i d = let l = d .1 in absurd (omega arith)
+    never : (i : ℕ) → Done A last 0 i → ⊥
+    never i d = let l = d .1 in omega arith
 
 module _ (A : ℕ) (states : ℕ → State) (links : ℕ → ℕ → List Item) (es : List WorldEvent) (last : ℕ → ℕ)
-    (known : Assumed A states links es last) where
+    (known : Assumed A states links es last)
+    (cuts : CutsFirst A states links es last) (above : RestartsAbove (serves A) (atFirst states links) es) where
   abbrev start : World
   start = atFirst states links
 
@@ -101,14 +81,16 @@ module _ (A : ℕ) (states : ℕ → State) (links : ℕ → ℕ → List Item) 
   kept-after : (n i : ℕ) (e : WorldEvent) → OfA A i → Nth es n e → last i < n
       → next (world n) e .state i .net .bits ≡ world n .state i .net .bits
   kept-after n i e q h lt =
-      net-left n i e q h ∙ stays-after A states links es (last i) i (known .has-last i q) n lt (h .0)
-      ∙ sym (net-is n i q)
+      net-left n i e q h ∙ stays-after A states links es (last i) i (known .has-last i q)
+      (λ m c. cuts m i i q q c) n lt (h .0) ∙ sym (net-is n i q)
 
   -- so it is A, for so it is at the end
   net-from : (n i : ℕ) → n ≤ length es → OfA A i → last i < n → net i n ≡ A
   net-from n i le q lt =
       along (λ k. net i n ≡ net i k) es n (length es) le (omega arith) refl
-      (λ k e h x y. y ∙ sym (stays-after A states links es (last i) i (known .has-last i q) k (omega arith) (x .0)))
+      (λ k e h x y. y ∙ sym
+      (stays-after A states links es (last i) i (known .has-last i q) (λ m c. cuts m i i q q c) k (omega arith)
+      (x .0)))
       ∙ net-at-end A states links es i ∙ known .net-is-A i q
 
   -- what is assumed of each event
@@ -121,6 +103,7 @@ module _ (A : ℕ) (states : ℕ → State) (links : ℕ → ℕ → List Item) 
         keeps = λ i j place x a b k. known .none-lost n i j place x a b (subst (Nth es n) k h);
         not-after = λ i q. not-later i q c;
         is-last = λ i q k. the-report i q (k ∙ c);
+        cuts-first = λ o b left m q k i p. let z = cuts n o i q p (b, left, m, subst (Nth es n) k h) in omega arith;
         final = λ i q k. net-left n i e q h ∙ net-from (n + 1) i (omega arith) q (omega arith);
       }
     where
@@ -155,7 +138,7 @@ module _ (A : ℕ) (states : ℕ → State) (links : ℕ → ℕ → List Item) 
 
   -- arrays that show the world before event n, with the invariants and with I besides
   abbrev Known : (ℕ → Offices → Type 0) → ℕ → Type 0
-  Known I = Shown (serves A) states links es begins (known .among) (λ n g. Inv A last n g × I n g)
+  Known I = Shown (serves A) states links es begins (known .among) above (λ n g. Inv A last n g × I n g)
 
   module _ (I : ℕ → Offices → Type 0)
       (keeps : (n : ℕ) (e : WorldEvent) → Nth es n e → (g h : Offices) → Inv A last n g → I n g
@@ -169,10 +152,11 @@ module _ (A : ℕ) (states : ℕ → State) (links : ℕ → ℕ → List Item) 
         (inv-acts A last (i .0) f, keeps n e k g h (i .0) (i .1) f)
 
     known-along : (n m : ℕ) → n ≤ m → m ≤ length es → Known I n → Known I m
-    known-along = shown-along (serves A) states links es begins (known .among) (λ n g. Inv A last n g × I n g) one
+    known-along = shown-along (serves A) states links es begins (known .among) above
+        (λ n g. Inv A last n g × I n g) one
 
     known-at : I 0 atStart → (n : ℕ) → n ≤ length es → Known I n
-    known-at i = shown-at (serves A) states links es begins (known .among) (λ n g. Inv A last n g × I n g) one
+    known-at i = shown-at (serves A) states links es begins (known .among) above (λ n g. Inv A last n g × I n g) one
         (start-inv A last, i)
 
   abbrev Whatever : ℕ → Offices → Type 0
@@ -182,7 +166,9 @@ module _ (A : ℕ) (states : ℕ → State) (links : ℕ → ℕ → List Item) 
   any-time = known-at Whatever (λ n e k g h v i a. omega arith) (omega arith)
 
 module _ (A : ℕ) (states : ℕ → State) (links : ℕ → ℕ → List Item) (es : List WorldEvent) (last : ℕ → ℕ) (T : ℕ)
-    (known : Assumed A states links es last) (after : AllReported A states links es last T) where
+    (known : Assumed A states links es last) (cuts : CutsFirst A states links es last)
+    (above : RestartsAbove (serves A) (atFirst states links) es)
+    (after : AllReported A states links es last T) where
   abbrev w-at : ℕ → World
   w-at n = at (atFirst states links) es n
 
@@ -217,8 +203,8 @@ module _ (A : ℕ) (states : ℕ → State) (links : ℕ → ℕ → List Item) 
   bounded : from T ≤ P + countOf A * (countOf A - 1) * (P + countOf A)
   unfolding Counted from deliveries
   bounded =
-      let s = any-time A states links es last known T T-in in
-      let c : w-at T .clock ≡ T = clock-is A states links es last known T T-in in
+      let s = any-time A states links es last known cuts above T T-in in
+      let c : w-at T .clock ≡ T = clock-is A states links es last known cuts above T T-in in
       let early : (i j : ℕ) → OfA A i → OfA A j → (i ≡ j → ⊥) → Every (λ x. x .sent < T) (s .0 .link i j)
       = λ i j a b n. subst (λ (t : ℕ). Every (λ x. x .sent < t) (s .0 .link i j)) c
       (rw (s .1 .links i j (a, b .0, n)) at (s .1 .stamped i j (a, b .0, n))) in
@@ -227,7 +213,7 @@ module _ (A : ℕ) (states : ℕ → State) (links : ℕ → ℕ → List Item) 
       let first : Goes A last T P (after .after) 0 (s .0)
       = subst (λ (x : ℕ). Goes A last T x (after .after) 0 (s .0)) (sym same)
       (at-first A last T (after .after) (s .0) early) in
-      let r = known-along A states links es last known Counted count-one T (length es) T-in (omega arith)
+      let r = known-along A states links es last known cuts above Counted count-one T (length es) T-in (omega arith)
       (s .0, s .1, s .2, (s .3 .0, (omega arith, 0, first, omega arith))) in
       let z : deliveries A (w-at (length es)) (drop (length es) es) ≡ 0 = rw (drop-length es) in
       let b = deliveries-bound A last T P (after .after) (r .3 .1 .2) in
@@ -239,11 +225,11 @@ module _ (A : ℕ) (states : ℕ → State) (links : ℕ → ℕ → List Item) 
   Still n g = (T ≤ n) × Empty A (g .link)
 
   abbrev Quiet : ℕ → Type 0
-  Quiet n = Known A states links es last known Still n
+  Quiet n = Known A states links es last known cuts above Still n
 
   quiet-at : (n : ℕ) → T ≤ n → n ≤ length es → onWay A (w-at n .link) ≡ 0 → Quiet n
   quiet-at n t h z =
-      let s = any-time A states links es last known n h in (
+      let s = any-time A states links es last known cuts above n h in (
         s .0,
         s .1,
         s .2,
@@ -254,7 +240,7 @@ module _ (A : ℕ) (states : ℕ → State) (links : ℕ → ℕ → List Item) 
       )
 
   quiet-on : (n m : ℕ) → n ≤ m → m ≤ length es → Quiet n → Quiet m
-  quiet-on = known-along A states links es last known Still
+  quiet-on = known-along A states links es last known cuts above Still
       (λ n e k g h v s a. let l = s .0 in (omega arith, quiet-acts A last n (all-done n (s .0)) v (s .1) a))
 
   -- what a quiet office of A answers: it writes nothing
@@ -262,7 +248,7 @@ module _ (A : ℕ) (states : ℕ → State) (links : ℕ → ℕ → List Item) 
       → Gives (w-at n) e i r → r .written ≡ []
   silent n h q e k i r p (to-report o rep room) =
       unchanged-silent (w-at n) o room rep (known .among n (report o rep room) k)
-      (kept-after A states links es last known n o (report o rep room) p k (all-done n h o p))
+      (kept-after A states links es last known cuts above n o (report o rep room) p k (all-done n h o p))
   silent n h q e k j r p (to-proposal i o room x l front) = unheard (w-at n) o room (x .proposal) not-of-A
     where
       m : (i < 16) × (o < 16) × (i ≡ o → ⊥)
@@ -302,9 +288,38 @@ module _ (A : ℕ) (states : ℕ → State) (links : ℕ → ℕ → List Item) 
         },
       )
 
--- the settling rule
-pub settles : (A : ℕ) (states : ℕ → State) (links : ℕ → ℕ → List Item) (es : List WorldEvent)
-    → Settles A states links es
+-- the settling rule, where every cut comes before every last report
+pub settles-after-cuts : (A : ℕ) (states : ℕ → State) (links : ℕ → ℕ → List Item) (es : List WorldEvent)
+    → RestartsAbove (serves A) (atFirst states links) es
+    → SettlesAfterCuts A states links es
 unfolding from
-settles A states links es last T known after =
-    (bounded A states links es last T known after, settled A states links es last T known after)
+settles-after-cuts A states links es above last T known cuts after =
+    (bounded A states links es last T known cuts above after, settled A states links es last T known cuts above after)
+
+-- and by request 7's words
+pub settles : (A : ℕ) (states : ℕ → State) (links : ℕ → ℕ → List Item) (es : List WorldEvent)
+    → RestartsAbove (serves A) (atFirst states links) es
+    → Settles A states links es
+settles A states links es above last T known cuts after =
+    settles-after-cuts A states links es above last T known
+    (cuts-first A states links es last (known .has-last) cuts) after
+
+-- demand 3 itself: without cuts nothing is asked of them
+pub settles-uncut : (A : ℕ) (states : ℕ → State) (links : ℕ → ℕ → List Item) (es : List WorldEvent)
+    → SettlesUncut A states links es
+settles-uncut A states links es last T known uncut after =
+    settles-after-cuts A states links es above last T known (λ n r i a b c. absurd (uncut n r c)) after
+  where
+    above : RestartsAbove (serves A) (atFirst states links) es
+    above n (report o r room) h = tt
+    above n (delivery i j room) h = tt
+    above n (loss i j place) h = tt
+    above n (cut o b left m) h = absurd (uncut n o (b, left, m, h))
+
+-- and where an office is cut off after any byte written to its file and after any record that left
+pub settles-with-files : (A : ℕ) (states : ℕ → State) (links : ℕ → ℕ → List Item) (files : ℕ → List ℕ)
+    (fs : List FileEvent) → SettlesWithFiles A states links files fs
+settles-with-files A states links files fs empty =
+    let es = plainly (filedFirst states links files) fs in
+    let above = restarts-above (serves A) states links files empty fs in
+    (settles A states links es above, settles-after-cuts A states links es above)

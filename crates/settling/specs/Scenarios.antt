@@ -8,17 +8,22 @@ use lib.ListN.{getD, drop}
 use lib.Dec.{eqb, ltb}
 use Rattle.laws.specs.Fin.{allb, largest, sum}
 use Rattle.laws.specs.Tab.{tab}
-use Rattle.laws.specs.Lists.{runs}
+use Rattle.laws.specs.Lists.{runs, pieces}
 use Rattle.laws.specs.Upd.{ifb}
 use Rattle.seats.specs.Seats.{has}
 use Rattle.seats.specs.Offices.{serves, countOf}
 use Rattle.records.specs.declared.Proposal.{Proposal}
+use Rattle.records.specs.Layout.{encodeHigh, decodeHigh}
 use Rattle.rules.specs.State.{None, State, zeros, nothing}
 use Rattle.rules.specs.Rules.{fresh}
 use Rattle.rules.specs.Refusals.{wellFormed, fullRoom}
 use Rattle.rules.specs.Days.{given}
-use Rattle.runs.specs.World.{netOne, netBy, Item, SentView, viewsIn, World, atFirst, WorldEvent, report, delivery}
-use Rattle.runs.specs.World.{loss, answered, withLink, idle, reportAnswer, proposalAnswer, next, run, at}
+use Rattle.rules.specs.MarkFile.{lastOf, lastHigh, highBytes}
+use Rattle.rules.specs.Leaving.{putsAll, actionsFrom, fileAfter, leftIn}
+use Rattle.runs.specs.World.{netOne, netBy, Item, SentView, viewsIn, World, atFirst, Underway, nothing-begun}
+use Rattle.runs.specs.World.{begun-report, begun-delivery, WorldEvent, report, delivery, loss, cut, answered, withLink}
+use Rattle.runs.specs.World.{idle, begunWrites, takenUp, cutAnswer, reportAnswer, proposalAnswer, next, run, at}
+use Rattle.runs.specs.Files.{FileEvent, reports, delivers, doneAt, nextFiled, plainly, filedFirst}
 use Rattle.settling.specs.Statement.{onWay, deliveries}
 
 -- an office that does not start fresh, and a proposal that is on the link from its sender at first
@@ -54,10 +59,16 @@ unfoldable pub everywhere : (World → WorldEvent → Bool) → World → List W
 everywhere t w [] = true
 everywhere t w (e ∷ es) = t w e && everywhere t (next w e) es
 
+abbrev pub begunAmongb : ℕ → Underway → Bool
+begunAmongb o nothing-begun = true
+begunAmongb o (begun-report r room) = ltb (r .joining .bits) (2 ^ 64) && ltb (r .leaving .bits) (2 ^ 64)
+begunAmongb o (begun-delivery i room) = ltb i 16 && not (eqb i o)
+
 abbrev pub amongb : World → WorldEvent → Bool
 amongb w (report o r room) = ltb o 16 && (ltb (r .joining .bits) (2 ^ 64) && ltb (r .leaving .bits) (2 ^ 64))
 amongb w (delivery i j room) = ltb i 16 && (ltb j 16 && not (eqb i j))
 amongb w (loss i j place) = ltb i 16 && (ltb j 16 && not (eqb i j))
+amongb w (cut o b left m) = ltb o 16 && begunAmongb o b
 
 -- no office of the set x answers c
 abbrev pub handedNot : ℕ → World → ℕ → ℕ → List Item → Bool
@@ -68,6 +79,7 @@ abbrev pub answersNot : ℕ → ℕ → World → WorldEvent → Bool
 answersNot x c w (report o r room) = not (serves x o) || not (eqb (reportAnswer w o r room .refusal) c)
 answersNot x c w (delivery i j room) = not (serves x j) || handedNot c w j room (w .link i j)
 answersNot x c w (loss i j place) = true
+answersNot x c w (cut o b left m) = true
 
 -- a loss between offices of x takes only what was sent before the sender's last report
 abbrev pub olderAt : ℕ → ℕ → List Item → Bool
@@ -78,16 +90,57 @@ olderAt t (suc n) (y ∷ l) = olderAt t n l
 abbrev pub losesOld : ℕ → (ℕ → ℕ) → World → WorldEvent → Bool
 losesOld x last w (report o r room) = true
 losesOld x last w (delivery i j room) = true
+losesOld x last w (cut o b left m) = true
 losesOld x last w (loss i j place) = not (serves x i) || (not (serves x j) || olderAt (last i) place (w .link i j))
 
 abbrev pub reportsTo : ℕ → WorldEvent → Bool
 reportsTo i (report o r room) = eqb o i
 reportsTo i (delivery a b room) = false
 reportsTo i (loss a b place) = false
+reportsTo i (cut o b left m) = false
 
 abbrev pub noneTo : ℕ → List WorldEvent → Bool
 noneTo i [] = true
 noneTo i (e ∷ es) = not (reportsTo i e) && noneTo i es
+
+-- a cut of an office of x comes before the office's own last report; before the last report of every office of x
+abbrev pub cutsEarly : ℕ → (ℕ → ℕ) → World → WorldEvent → Bool
+cutsEarly x last w (report o r room) = true
+cutsEarly x last w (delivery i j room) = true
+cutsEarly x last w (loss i j place) = true
+cutsEarly x last w (cut o b left m) = not (serves x o) || ltb (w .clock) (last o)
+
+abbrev pub cutsFirst : ℕ → (ℕ → ℕ) → World → WorldEvent → Bool
+cutsFirst x last w (report o r room) = true
+cutsFirst x last w (delivery i j room) = true
+cutsFirst x last w (loss i j place) = true
+cutsFirst x last w (cut o b left m) = not (serves x o) || allb 16 (λ i. not (serves x i) || ltb (w .clock) (last i))
+
+abbrev pub cutsOff : ℕ → WorldEvent → Bool
+cutsOff r (report o q room) = false
+cutsOff r (delivery a b room) = false
+cutsOff r (loss a b place) = false
+cutsOff r (cut o b left m) = eqb o r
+
+-- Office j hears of office r, from the world w on, where j's net view is x: a report brings a seat of r back; one
+-- takes all out, and a later one brings one back; so after every cut of r.
+module _ (j r : ℕ) where
+  unfoldable pub backIn : World → List WorldEvent → ℕ → Bool
+  backIn w [] x = false
+  backIn w (e ∷ es) x =
+      let y = netOne w e j x in (reportsTo j e && serves y r) || backIn (next w e) es y
+
+  unfoldable pub outAndBackIn : World → List WorldEvent → ℕ → Bool
+  outAndBackIn w [] x = false
+  outAndBackIn w (e ∷ es) x =
+      let y = netOne w e j x in
+      (reportsTo j e && (not (serves y r) && backIn (next w e) es y)) || outAndBackIn (next w e) es y
+
+  unfoldable pub afterCuts : World → List WorldEvent → ℕ → Bool
+  afterCuts w [] x = true
+  afterCuts w (e ∷ es) x =
+      let y = netOne w e j x in
+      (not (cutsOff r e) || outAndBackIn (next w e) es y) && afterCuts (next w e) es y
 
 -- the place of the last report to office i, whether it changes the net view or not, where there is one
 abbrev pub lastTo : List WorldEvent → ℕ → ℕ
@@ -126,7 +179,10 @@ pub record Lasts : Type 0 where
 unfoldable pub changeAt : Scenario → Lasts
 changeAt p =
     let ends = points p in
-    record { has = λ i. ltb 0 (getD ends i 0); place = λ i. getD ends i 0 - 1 }
+    record {
+      has = λ i. ltb 0 (getD ends i 0) && reportsTo i (getD (p .events) (getD ends i 0 - 1) (loss 0 0 0));
+      place = λ i. getD ends i 0 - 1;
+    }
 
 -- the last in the list
 unfoldable pub reportAt : Scenario → Lasts
@@ -147,10 +203,10 @@ passes o s = eqb (s .own) o && wellFormed s
 abbrev pub ofEach : ℕ → (ℕ → Bool) → Bool
 ofEach x t = allb 16 (λ i. not (serves x i) || t i)
 
--- what the rule assumes, by its names
+-- what the rule assumes, by its names; the last three are of cuts
 pub data Hypothesis : Type 0 where
   some-seat starts-fresh no-mail others-pass others-mail among has-last net-is-A full-room no-ceiling
-      none-lost : Hypothesis
+      none-lost before-last out-and-back cuts-first : Hypothesis
 
 unfoldable pub holds : Scenario → Lasts → Hypothesis → Bool
 holds p l some-seat = ltb 0 (p .set) && ltb (p .set) (2 ^ 64)
@@ -165,11 +221,22 @@ holds p l net-is-A = ofEach (p .set) (λ i. eqb (netBy (opening p) (p .events) i
 holds p l full-room = everywhere (answersNot (p .set) 3) (opening p) (p .events)
 holds p l no-ceiling = everywhere (answersNot (p .set) 13) (opening p) (p .events)
 holds p l none-lost = everywhere (losesOld (p .set) (l .place)) (opening p) (p .events)
+holds p l before-last = everywhere (cutsEarly (p .set) (l .place)) (opening p) (p .events)
+holds p l out-and-back =
+    ofEach (p .set) (λ r. ofEach (p .set) (λ j. eqb j r || afterCuts j r (opening p) (p .events) 0))
+holds p l cuts-first = everywhere (cutsFirst (p .set) (l .place)) (opening p) (p .events)
 
-abbrev pub hypotheses : List Hypothesis
-hypotheses =
+-- of any list, and of its cuts: request 7's words, and what is needed
+abbrev pub assumed : List Hypothesis
+assumed =
     some-seat ∷ starts-fresh ∷ no-mail ∷ others-pass ∷ others-mail ∷ among ∷ has-last ∷ net-is-A ∷ full-room
     ∷ no-ceiling ∷ none-lost ∷ []
+
+abbrev pub ofCuts : List Hypothesis
+ofCuts = before-last ∷ out-and-back ∷ cuts-first ∷ []
+
+abbrev pub hypotheses : List Hypothesis
+hypotheses = assumed ++ ofCuts
 
 abbrev pub failing : (Hypothesis → Bool) → List Hypothesis → List Hypothesis
 failing t [] = []
@@ -206,6 +273,7 @@ abbrev pub answer : World → WorldEvent → List ℕ
 answer w (report o r room) = reportAnswer w o r room .refusal ∷ []
 answer w (delivery i j room) = handed w j room (w .link i j)
 answer w (loss i j place) = []
+answer w (cut o b left m) = []
 
 unfoldable pub answersTo : World → List WorldEvent → List ℕ
 answersTo w [] = []
@@ -232,8 +300,9 @@ pub record Summary : Type 0 where
 
 -- who unfolds this unfolds the rules
 unfoldable pub summary : Scenario → Summary
-unfolding given atFirst answered withLink idle reportAnswer proposalAnswer next runs netBy countOf deliveries sum
-    followed points changeAt reportAt everywhere holds fails failsByReport reportedLast answersTo pointOf
+unfolding given atFirst answered withLink idle begunWrites takenUp cutAnswer reportAnswer proposalAnswer next runs
+    netBy countOf deliveries sum followed points changeAt reportAt everywhere backIn outAndBackIn afterCuts holds fails
+    failsByReport reportedLast answersTo pointOf
 summary p =
     let t = pointOf p in
     let w = at (opening p) (p .events) t in
@@ -263,11 +332,29 @@ join o x = change o x 0
 abbrev pub leave : ℕ → ℕ → WorldEvent
 leave o x = change o 0 x
 
+-- a report of joining seats that an office has begun
+abbrev pub joinBegun : ℕ → Underway
+joinBegun x = begun-report (record { joining = record { bits = x }; leaving = record { bits = 0 } }) fullRoom
+
 abbrev pub shortRoom : ℕ
 shortRoom = fullRoom - 1
 
 abbrev pub hand : ℕ → ℕ → WorldEvent
 hand i j = delivery i j fullRoom
+
+-- the same of a list with files
+abbrev pub changes : ℕ → ℕ → ℕ → FileEvent
+changes o joining leaving =
+    reports o (record { joining = record { bits = joining }; leaving = record { bits = leaving } }) fullRoom
+
+abbrev pub hands : ℕ → ℕ → FileEvent
+hands i j = delivers i j fullRoom
+
+-- the events that such a list is, the files empty at first; who unfolds this unfolds what an office does to its file
+unfoldable pub withFiles : List FileEvent → List WorldEvent
+unfolding summary plainly nextFiled doneAt actionsFrom putsAll fileAfter leftIn highBytes encodeHigh decodeHigh pieces
+    lastOf lastHigh
+withFiles fs = plainly (filedFirst (stateIn []) (linkIn []) (λ i. [])) fs
 
 -- an office in mode none with nothing stored and no view yet
 abbrev pub inNone : (own net start number : ℕ) (accepted used : List ℕ) → State

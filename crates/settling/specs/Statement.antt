@@ -1,7 +1,7 @@
 -- The settling rule (demand 3), stated over the world of crate runs: what is assumed, what is claimed. The proof
 -- stands in proofs/; its end is `settles` in Settling.antt.
 use mathlib.Core.Path.{_≡_}
-use mathlib.Core.Bool.{Bool, true, _&&_, not}
+use mathlib.Core.Bool.{Bool, true, false, _&&_, not}
 use mathlib.Core.List.{List, [], _∷_}
 use Prim.Native.Nat.{ℕ, _+_, _-_, _*_, _^_, _≤_, _<_}
 use lib.ListN.{length, take, drop, getD}
@@ -15,8 +15,9 @@ use Rattle.records.specs.declared.View.{View}
 use Rattle.rules.specs.State.{State}
 use Rattle.rules.specs.Rules.{fresh}
 use Rattle.rules.specs.Refusals.{Result, wellFormed}
-use Rattle.runs.specs.World.{Item, SentView, viewsIn, World, atFirst, WorldEvent, report, delivery, loss, next, at}
-use Rattle.runs.specs.World.{Nth, Gives, netBy, Among}
+use Rattle.runs.specs.World.{Item, SentView, viewsIn, World, atFirst, Underway, WorldEvent, report, delivery, loss}
+use Rattle.runs.specs.World.{cut, next, at, Nth, Gives, netBy, Among}
+use Rattle.runs.specs.Files.{FileEvent, filedFirst, plainly}
 
 -- i and j are two offices of A
 abbrev pub between : ℕ → ℕ → ℕ → Bool
@@ -31,6 +32,7 @@ abbrev pub deliveryOne : ℕ → World → WorldEvent → ℕ
 deliveryOne A w (report o r room) = 0
 deliveryOne A w (delivery i j room) = ifb (between A i j && ltb 0 (length (w .link i j))) 1 0
 deliveryOne A w (loss i j place) = 0
+deliveryOne A w (cut o b left m) = 0
 
 unfoldable pub deliveries : ℕ → World → List WorldEvent → ℕ
 deliveries A w [] = 0
@@ -45,7 +47,7 @@ module _ (A : ℕ) (states : ℕ → State) (links : ℕ → ℕ → List Item) 
   abbrev pub first : World
   first = atFirst states links
 
-  -- the net view of office i before event n: what its accepted reports so far make of the empty set
+  -- the net view of office i before event n: what its accepted reports, since it was last fresh, make of the empty set
   abbrev pub netAt : ℕ → ℕ → ℕ
   netAt i n = netBy first (take n es) i 0
 
@@ -59,6 +61,32 @@ module _ (A : ℕ) (states : ℕ → State) (links : ℕ → ℕ → List Item) 
 
   abbrev pub LastChange : ℕ → ℕ → Type 0
   LastChange i n = Changes n i × ((m : ℕ) → n < m → Changes m i → ⊥)
+
+  -- event n is a cut of office r
+  abbrev pub CutAt : ℕ → ℕ → Type 0
+  CutAt n r = (b : Underway) × (left : ℕ) × (m : ℕ) × Nth es n (cut r b left m)
+
+  -- Cuts of offices of A, in request 7's words: each comes before the office's last report, and after it every other
+  -- office of A gets a report that takes the office's seats out and one that brings them back. A report after which no
+  -- seat of it is in the net view takes them out, also where none was in it before.
+  abbrev pub TakesOut : ℕ → ℕ → ℕ → Type 0
+  TakesOut n j r = ReportTo n j × (serves (netAt j (n + 1)) r ≡ false)
+
+  abbrev pub BringsBack : ℕ → ℕ → ℕ → Type 0
+  BringsBack n j r = ReportTo n j × (serves (netAt j (n + 1)) r ≡ true)
+
+  pub record OutAndBack (last : ℕ → ℕ) : Type 0 where
+    pub before-last : (n r : ℕ) → OfA A r → CutAt n r → n < last r
+    pub out-and-back : (n r j : ℕ) → OfA A r → OfA A j → (j ≡ r → ⊥) → CutAt n r
+        → (a b : ℕ) × (n < a) × (a < b) × TakesOut a j r × BringsBack b j r
+
+  -- what is needed of them: every cut of an office of A comes before the last report of every office of A
+  abbrev pub CutsFirst : (ℕ → ℕ) → Type 0
+  CutsFirst last = (n r i : ℕ) → OfA A r → OfA A i → CutAt n r → n < last i
+
+  -- no office is cut off
+  abbrev pub Uncut : Type 0
+  Uncut = (n r : ℕ) → CutAt n r → ⊥
 
   -- what is assumed; event last i is the last report that changes the net view of office i, its last report for short
   pub record Assumed (last : ℕ → ℕ) : Type 0 where
@@ -100,9 +128,29 @@ module _ (A : ℕ) (states : ℕ → State) (links : ℕ → ℕ → List Item) 
     pub no-more : (m i : ℕ) (r : Result) (e : WorldEvent) → n ≤ m → OfA A i → Nth es m e → Gives (at first es m) e i r
         → r .written ≡ []
 
-  -- the settling rule: P is what is on its way at T, k the number of the offices of A
-  abbrev pub Settles : Type 0
-  Settles = (last : ℕ → ℕ) (T : ℕ) → Assumed last → AllReported last T
+  -- the settling rule, with a hypothesis on the cuts: P is what is on its way at T, k the number of the offices of A
+  abbrev pub SettlesIf : ((ℕ → ℕ) → Type 0) → Type 0
+  SettlesIf Cuts = (last : ℕ → ℕ) (T : ℕ) → Assumed last → Cuts last → AllReported last T
       → (deliveries A (at first es T) (drop T es)
       ≤ onWay A (at first es T .link) + countOf A * (countOf A - 1) * (onWay A (at first es T .link) + countOf A))
       × ((n : ℕ) → T ≤ n → n ≤ length es → onWay A (at first es n .link) ≡ 0 → (v : View) × Settled last n v)
+
+  -- demand 3 itself
+  abbrev pub SettlesUncut : Type 0
+  SettlesUncut = SettlesIf (λ last. Uncut)
+
+  -- by request 7's words, and by what is needed
+  abbrev pub Settles : Type 0
+  Settles = SettlesIf OutAndBack
+
+  abbrev pub SettlesAfterCuts : Type 0
+  SettlesAfterCuts = SettlesIf CutsFirst
+
+-- The same of lists in which an office is cut off after any byte written to its file and any record that left. The
+-- files of the offices of A are empty at first.
+abbrev pub NoMarks : ℕ → (ℕ → List ℕ) → Type 0
+NoMarks A files = (i : ℕ) → OfA A i → files i ≡ []
+
+abbrev pub SettlesWithFiles : ℕ → (ℕ → State) → (ℕ → ℕ → List Item) → (ℕ → List ℕ) → List FileEvent → Type 0
+SettlesWithFiles A states links files fs = NoMarks A files → let es = plainly (filedFirst states links files) fs in
+    Settles A states links es × SettlesAfterCuts A states links es

@@ -1,0 +1,174 @@
+-- The record in front of the bytes of an answer, as the call reads it: the record itself, its length and its largest
+-- number.
+use mathlib.Core.Path.{_≡_, sym, ap, _∙_}
+use mathlib.Core.Bool.{Bool, true, false}
+use mathlib.Core.List.{List, [], _∷_, _++_, append-nil}
+use Prim.Native.Nat.{ℕ, _^_, _≤_, _<_}
+use native.Mathlib.Omega.{arith}
+use lib.ListN.{length, getD, take, length-append}
+use lib.Seq.{take-at}
+use lib.Dec.{eqb, ltb}
+use borrow.Author.Tests.{eqb-true, ne-eqb, ltb-false, le-ltb}
+use Rattle.laws.specs.Big.{bytes4, bytes8, Below}
+use Rattle.laws.specs.Fin.{largest}
+use Rattle.laws.proofs.Big.{digits4, all-back}
+use Rattle.laws.specs.Checks.{firstOf}
+use Rattle.laws.specs.Upd.{ifb}
+use Rattle.laws.proofs.Fin.{if-cases, if-le, or-l, or-out, largest-le}
+use Rattle.records.specs.Numbers.{limit}
+use Rattle.records.specs.Layout.{noticeMark, proposalMark, viewMark, noticeLength, proposalLength, viewLength}
+use Rattle.records.specs.Layout.{highLength, valueOf, markOf, encodeNotice, encodeProposal, encodeView}
+use Rattle.records.specs.Layout.{decodeNotice, decodeProposal, decodeView}
+use Rattle.records.proofs.CheckLaws.{long-mark}
+use Rattle.records.proofs.Lengths.{notice-length, proposal-length, view-length}
+use Rattle.records.proofs.NumberLaws.{sixteen-below}
+use Rattle.records.proofs.RoundTrip.{notice-back, proposal-back, view-back}
+use Rattle.rules.specs.Rules.{Written, notice, proposal, view}
+use Rattle.rules.specs.Refusals.{bytesOf}
+use Rattle.rules.specs.MarkFile.{nextHigh}
+use Rattle.rules.specs.Leaving.{largestIn}
+use Rattle.restart.specs.declared.leaving.Before.{Before}
+use Rattle.restart.specs.Before.{leavingLength, frontLength, leavingRecord, frontLargest, leavesAbove}
+use Rattle.restart.specs.Before.{beforeChecks, markFor, beforeOf}
+use Rattle.restart.specs.Caller.{FitsWritten, HasSixteen, FrontIs}
+use Rattle.restart.proofs.Exits.{Fits, before-leaves, all-pass}
+
+-- the value of its mark
+abbrev markValue : Written → ℕ
+markValue (notice n) = valueOf noticeMark
+markValue (proposal p) = valueOf proposalMark
+markValue (view v) = valueOf viewMark
+
+mark-front : (w : Written) (behind : List ℕ) → markOf (bytesOf w ++ behind) ≡ markValue w
+unfolding encodeNotice encodeProposal encodeView
+mark-front (notice n) behind = long-mark (encodeNotice n ++ behind) (omega arith)
+mark-front (proposal p) behind = long-mark (encodeProposal p ++ behind) (omega arith)
+mark-front (view v) behind = long-mark (encodeView v ++ behind) (omega arith)
+
+mark-own : (w : Written) → markOf (bytesOf w) ≡ markValue w
+mark-own w = rw (append-nil (bytesOf w)) at (mark-front w [])
+
+-- what its bytes are read as
+abbrev readBack : Written → Written
+readBack (notice n) = notice (decodeNotice (encodeNotice n))
+readBack (proposal p) = proposal (decodeProposal (encodeProposal p))
+readBack (view v) = view (decodeView (encodeView v))
+
+read-back : (w : Written) → leavingRecord (bytesOf w) ≡ readBack w
+unfolding leavingRecord
+read-back (notice n) = rw (mark-own (notice n))
+read-back (proposal p) = rw (mark-own (proposal p))
+read-back (view v) = rw (mark-own (view v))
+
+back-same : (w : Written) → FitsWritten w → readBack w ≡ w
+back-same (notice n) f = ap notice (notice-back n f)
+back-same (proposal p) f = ap proposal (proposal-back p f)
+back-same (view v) f = ap view (view-back v f)
+
+-- sixteen numbers of which none is above L have room in four bytes each
+sixteen-low : (l : List ℕ) → length l ≡ 16 → largest 16 (λ o. getD l o 0) ≤ limit → Below (2 ^ 32) l
+sixteen-low l n h = sixteen-below l n (λ o lt. let x = largest-le 16 (λ k. getD l k 0) o lt in omega arith)
+
+-- its numbers come back, whatever its members
+back-largest : (w : Written) → HasSixteen w → largestIn w ≤ limit → largestIn (readBack w) ≡ largestIn w
+unfolding encodeNotice decodeNotice encodeProposal decodeProposal encodeView decodeView
+back-largest (notice n) h l = digits4 (n .start) (omega arith)
+back-largest (proposal p) h l =
+    rw (
+      digits4 (p .start) (omega arith),
+      digits4 (p .number) (omega arith),
+      all-back
+          (proposalMark ++ (p .sender ∷ p .kind ∷ []) ++ bytes8 (p .members .bits)
+          ++ bytes4 (p .start) ++ bytes4 (p .number))
+          (p .used) 16 h (sixteen-low (p .used) h (omega arith)),
+    )
+back-largest (view v) h l =
+    rw (
+      digits4 (v .number) (omega arith),
+      all-back (viewMark ++ bytes4 (v .number) ++ bytes8 (v .members .bits)) (v .starts) 16 h
+          (sixteen-low (v .starts) h (omega arith)),
+    )
+
+bytes-length : (w : Written) → HasSixteen w → length (bytesOf w) ≡ leavingLength (markValue w)
+unfolding leavingLength
+bytes-length (notice n) h = notice-length n
+bytes-length (proposal p) h = proposal-length p h
+bytes-length (view v) h = view-length v h
+
+pub bytes-some : (w : Written) → HasSixteen w → 0 < length (bytesOf w)
+bytes-some (notice n) h = let e = notice-length n in omega arith
+bytes-some (proposal p) h = let e = proposal-length p h in omega arith
+bytes-some (view v) h = let e = view-length v h in omega arith
+
+pub fits-sixteen : (w : Written) → FitsWritten w → HasSixteen w
+fits-sixteen (notice n) f = tt
+fits-sixteen (proposal p) f = f .used .count
+fits-sixteen (view v) f = f .starts .count
+
+-- with any bytes behind it
+module _ (w : Written) (h : HasSixteen w) (behind : List ℕ) where
+  pub front-length : frontLength (bytesOf w ++ behind) ≡ length (bytesOf w)
+  front-length = ap leavingLength (mark-front w behind) ∙ sym (bytes-length w h)
+
+  pub front-part : take (frontLength (bytesOf w ++ behind)) (bytesOf w ++ behind) ≡ bytesOf w
+  front-part = take-at (bytesOf w) behind (frontLength (bytesOf w ++ behind)) (sym front-length)
+
+  pub front-largest : largestIn w ≤ limit → frontLargest (bytesOf w ++ behind) ≡ largestIn w
+  front-largest l = rw (front-part, read-back w) (back-largest w h l)
+
+  -- and where it has no number above L
+  module _ (l : largestIn w ≤ limit) (last : ℕ) (low : last ≤ limit) (room : ℕ) (fits : highLength ≤ room) where
+    passes : Fits room (frontLength (bytesOf w ++ behind)) (length (bytesOf w ++ behind))
+    passes = record {
+      room-for = le-ltb _ _ fits;
+      marked = ne-eqb (frontLength (bytesOf w ++ behind)) 0
+          (λ z. let a = front-length in let b = bytes-some w h in omega arith);
+      enough = le-ltb (length (bytesOf w ++ behind)) (frontLength (bytesOf w ++ behind))
+          (let a = front-length in let b = length-append (bytesOf w) behind in omega arith);
+    }
+
+    -- the call answers with its length and the mark that it asks for
+    pub before-record : beforeOf last (bytesOf w ++ behind) room
+        ≡ record { refusal = 0; length = length (bytesOf w); mark = markFor last (largestIn w) }
+    before-record =
+        let x = frontLargest (bytesOf w ++ behind) in
+        let low-too : x ≤ limit = rw (front-largest l) l in
+        before-leaves last (bytesOf w ++ behind) room passes
+        (or-out (ltb limit last) (ltb limit x) (le-ltb limit last low) (le-ltb limit x low-too))
+        ∙ rw (front-largest l, front-length)
+
+-- where it fits its fields, what is read is the record itself
+pub front-is : (w : Written) → FitsWritten w → (behind : List ℕ) → FrontIs w (bytesOf w ++ behind)
+front-is w f behind =
+    let h = fits-sixteen w f in
+    let e : leavingRecord (take (frontLength (bytesOf w ++ behind)) (bytesOf w ++ behind)) ≡ w
+    = rw (front-part w h behind) (read-back w ∙ back-same w f) in
+    record { length-is = front-length w h behind; record-is = e; largest-is = ap largestIn e }
+
+-- what the call answers is small: no length above a proposal's, no mark past L
+front-most : (m : ℕ) → leavingLength m ≤ proposalLength
+unfolding leavingLength
+front-most m = go (eqb m (valueOf noticeMark)) (eqb m (valueOf proposalMark)) (eqb m (valueOf viewMark))
+  where
+    go : (a b c : Bool) → ifb a noticeLength (ifb b proposalLength (ifb c viewLength 0)) ≤ proposalLength
+    go true b c = omega arith
+    go false true c = omega arith
+    go false false true = omega arith
+    go false false false = omega arith
+
+mark-most : (last x : ℕ) → leavesAbove last x ≡ false → markFor last x ≤ limit
+mark-most last x t =
+    if-le (ltb last x) (nextHigh x) last limit (omega arith) (ltb-false limit last (or-l (ltb limit last) _ t))
+
+module _ (last : ℕ) (rest : List ℕ) (room : ℕ) where
+  pub before-length : beforeOf last rest room .length ≤ proposalLength
+  unfolding beforeOf
+  before-length =
+      if-cases (λ (b : Before). b .length ≤ proposalLength) (eqb (firstOf (beforeChecks last rest room)) 0) _ _
+      (λ e. front-most (markOf rest)) (λ e. omega arith)
+
+  pub before-mark : beforeOf last rest room .mark ≤ limit
+  unfolding beforeOf
+  before-mark =
+      if-cases (λ (b : Before). b .mark ≤ limit) (eqb (firstOf (beforeChecks last rest room)) 0) _ _
+      (λ e. mark-most last (frontLargest rest) (all-pass last rest room (eqb-true _ 0 e))) (λ e. omega arith)

@@ -1,0 +1,4 @@
+pub mod Marks
+pub mod Restart
+pub mod Before
+pub mod Caller

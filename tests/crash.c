@@ -1,0 +1,793 @@
+/* Real crashes: a child keeps a real file of high marks, is killed and begins again from its file, some thousands of
+ * times. What leaves goes into a pipe; the parent holds all that left, over all rounds of a file, to change request 7.
+ * A child kills itself after a number of actions, an action being one byte put into the file or one record sent. Those
+ * rounds are the same in every run, and what must come is counted in them. Or its parent kills it at a moment, which
+ * is another in every run. Children that do one thing wrong must each be caught by the same checks.
+ * Argument: the directory for the file, else TMPDIR or /tmp. The last line is 'N passed, M failed'. */
+#define _POSIX_C_SOURCE 200809L
+#include "room.h"
+
+#include <errno.h>
+#include <fcntl.h>
+#include <limits.h>
+#include <signal.h>
+#include <stdbool.h>
+#include <stdio.h>
+#include <stdlib.h>
+#include <string.h>
+#include <sys/wait.h>
+#include <time.h>
+#include <unistd.h>
+
+#define L 2000000000u
+#define MARGIN 1000000u
+#define ROOM 182
+#define SEATS 4           /* of an office */
+#define FULL_FILE 2000    /* marks, each little more than 1,000,000 above the one before it, and the last is L */
+#define LONGEST_WAIT 3000 /* microseconds until a parent kills */
+#define PAIRS 40          /* more than the 33 actions of an answer with three marks */
+#define IDLE 64           /* so many events in a row that nothing left after: nothing will */
+
+/* Places in the words of a state: docs/LAYOUT.md. */
+enum { NET = 2, START = 86, NUMBER = 87, VIEW_NUMBER = 88, ACCEPTED = 105 };
+
+/* What a child does wrong. */
+enum wrong { NOTHING, RECORD_FIRST, NINE_BYTES, ONCE, OWN_NUMBERS, OLD_MARK, APPENDS, FRESH };
+
+/* What every round is held to. */
+enum check { ENDS, WHOLE, RESTARTS, BEGINS, BELOW, MARKS, PROPOSALS, NOTICES, VIEWS, HEARD, CEILING, CHECKS };
+
+static const char *const check_names[CHECKS] = {
+    "a child ends by SIGKILL and nothing else",
+    "what left is whole records",
+    "the file has at most ROOM_FILE_BYTES and room_restart takes it",
+    "room_last_mark and room_restart answer what the file is worth, read by hand",
+    "every number that left is at most the last mark",
+    "the marks are those that the records which left ask for, and at most one more",
+    "proposal numbers rise over all rounds of a file",
+    "start numbers of notices rise over all rounds of a file",
+    "view numbers rise over all rounds of a file",
+    "the seats of the office accept every notice and view",
+    "from the mark L nothing leaves and 13 is answered",
+};
+
+/* Where a child was cut. */
+enum cut { BEFORE_ALL, IN_MARK, BEFORE_RECORD, BETWEEN, AFTER_ANSWER, IDLED, CUTS };
+
+static const char *const cut_names[CUTS] = {
+    "before anything", "inside a mark", "between a mark and its record", "between two records of one answer",
+    "after an answer", "where nothing leaves any more",
+};
+
+struct plan {
+    const char *name;
+    uint32_t reach;    /* how far above the last mark the numbers of other offices are drawn */
+    unsigned actions;  /* a child kills itself after fewer than so many; 0 where its parent kills it */
+    unsigned rounds;   /* the plan ends after so many */
+    unsigned pairs;    /* if not 0, a file has three rounds: any two cuts after fewer actions than this, then one */
+    enum wrong wrong;
+    enum check finder; /* the check that must find what is wrong */
+};
+
+/* The last thing that a child which kills itself puts into the pipe. */
+struct note {
+    char mark[2];        /* CU */
+    uint8_t cut;         /* the place */
+    uint8_t nth;         /* the marks begun in the answer at hand */
+    uint8_t mixed;       /* behind the bytes of the unfinished mark stand some of an older one */
+    uint16_t foreign;    /* marks that no own number called for */
+    uint16_t answers[4]; /* whole answers with so many marks, */
+    uint16_t twice;      /* with a notice and two proposals, */
+    uint16_t viewed;     /* with a notice, a proposal and a view */
+    uint16_t refused;    /* events answered by 13 */
+};
+
+static char directory[PATH_MAX], path[PATH_MAX + 8];
+static uint64_t drawn;
+
+static uint64_t draw(void) {
+    uint64_t z = drawn += 0x9E3779B97F4A7C15u;
+    z = (z ^ z >> 30) * 0xBF58476D1CE4E5B9u;
+    z = (z ^ z >> 27) * 0x94D049BB133111EBu;
+    return z ^ z >> 31;
+}
+
+static uint32_t below(uint32_t bound) { return (uint32_t)(draw() % bound); }
+
+/* Numbers in a record are stored most significant byte first. */
+static void put(uint8_t *at, int bytes, uint64_t number) {
+    for (int i = 0; i < bytes; i++) {
+        at[i] = (uint8_t)(number >> (8 * (bytes - 1 - i)));
+    }
+}
+
+static uint64_t get(const uint8_t *at, int bytes) {
+    uint64_t number = 0;
+    for (int i = 0; i < bytes; i++) {
+        number = number << 8 | at[i];
+    }
+    return number;
+}
+
+static uint64_t seats_of(unsigned office) { return (uint64_t)15 << (SEATS * office); }
+
+/* The child: an office with its file, from its begin to the cut. */
+struct child {
+    const struct plan *plan;
+    uint8_t office;
+    uint32_t state[ROOM_STATE_WORDS];
+    int file, pipe;
+    uint32_t last;    /* the last mark */
+    size_t place;     /* where the next one belongs */
+    size_t tail;      /* the bytes of an unfinished one there */
+    unsigned actions; /* that are still allowed */
+    unsigned idle;    /* events since the last action */
+    struct note note;
+};
+
+/* What cannot happen: the parent sees a child that did not end by SIGKILL. */
+static void give_up(void) { _exit(3); }
+
+static void cut(struct child *c, enum cut place) {
+    c->note.cut = (uint8_t)place;
+    if (write(c->pipe, &c->note, sizeof c->note) != sizeof c->note) {
+        give_up();
+    }
+    kill(getpid(), SIGKILL);
+}
+
+/* One more action is done. */
+static void acted(struct child *c, enum cut place) {
+    c->idle = 0;
+    if (c->actions-- == 0) {
+        cut(c, place);
+    }
+}
+
+/* Bytes of a mark into the file, one by one. No fdatasync: the end of a process loses nothing that pwrite has given to
+ * the kernel, and many thousand waits for a disk would take minutes. */
+static void keep(struct child *c, const uint8_t *mark, size_t from, size_t to) {
+    for (size_t i = from; i < to; i++) {
+        if (pwrite(c->file, mark + i, 1, (off_t)(c->place + i)) != 1) {
+            give_up();
+        }
+        c->note.mixed = i + 1 < c->tail;
+        acted(c, i + 1 < ROOM_MARK_BYTES ? IN_MARK : BEFORE_RECORD);
+    }
+    if (to == ROOM_MARK_BYTES) {
+        c->place += ROOM_MARK_BYTES;
+        c->tail = 0;
+    }
+}
+
+/* The largest number that is the office's own. */
+static uint32_t own_number(const uint8_t *record) {
+    if (memcmp(record, "PR", 2) != 0) {
+        return (uint32_t)get(record + 2, 4);
+    }
+    uint32_t start = (uint32_t)get(record + 12, 4), number = (uint32_t)get(record + 16, 4);
+    return start > number ? start : number;
+}
+
+/* A record leaves by one write, under PIPE_BUF and so whole; before it, its mark. */
+static void leave(struct child *c, const uint8_t *record, size_t size, const uint8_t *mark, bool more) {
+    size_t before = c->plan->wrong == RECORD_FIRST ? 0 : c->plan->wrong == NINE_BYTES ? 9 : ROOM_MARK_BYTES;
+    if (mark != NULL) {
+        c->note.nth++;
+        keep(c, mark, 0, before);
+    }
+    if (write(c->pipe, record, size) != (ssize_t)size) {
+        give_up();
+    }
+    acted(c, more ? BETWEEN : AFTER_ANSWER);
+    if (mark != NULL && before < ROOM_MARK_BYTES) {
+        keep(c, mark, before, ROOM_MARK_BYTES);
+    }
+}
+
+/* What the step wrote, record by record, as the header says. */
+static void send_answer(struct child *c, const uint8_t *out, size_t written) {
+    size_t size;
+    c->note.nth = 0;
+    for (size_t at = 0; at < written; at += size) {
+        uint8_t mark[ROOM_MARK_BYTES];
+        uint64_t before = room_mark_before(c->last, out + at, written - at, mark, sizeof mark);
+        uint32_t next = (uint32_t)(before / 65536);
+        size = before / 256 % 256;
+        if (before % 256 != 0 || size == 0 || size > written - at) {
+            give_up();
+        }
+        bool due = next != c->last, foreign = due && own_number(out + at) <= c->last;
+        if ((c->plan->wrong == OWN_NUMBERS && foreign) || (c->plan->wrong == ONCE && at > 0)) {
+            due = false;
+        }
+        c->note.foreign += foreign;
+        leave(c, out + at, size, due ? mark : NULL, at + size < written);
+        if (due && c->plan->wrong != OLD_MARK) {
+            c->last = next;
+        }
+    }
+    c->note.answers[c->note.nth]++;
+    c->note.twice += written == 14 + 84 + 84;
+    c->note.viewed += written == 14 + 84 + 78;
+}
+
+static void hand(struct child *c, const uint8_t *record, size_t length) {
+    uint8_t out[ROOM];
+    uint32_t answer = room_step(c->state, ROOM_STATE_WORDS, record, length, out, sizeof out);
+    c->note.refused += answer % 256 == 13;
+    if (answer / 256 > 0) {
+        send_answer(c, out, answer / 256);
+    }
+}
+
+static uint64_t net_view(const struct child *c) { return c->state[NET] | (uint64_t)c->state[NET + 1] << 32; }
+
+/* Seats of this office, seldom none, and either those of others as they are or of up to two others. */
+static uint64_t some_members(const struct child *c) {
+    uint64_t members = seats_of(c->office) & draw();
+    if (below(2) == 0) {
+        return members | (net_view(c) & ~seats_of(c->office));
+    }
+    for (uint32_t others = below(3); others > 0; others--) {
+        members |= seats_of((c->office + 1 + below(3)) % 16) & draw();
+    }
+    return members;
+}
+
+/* A report that makes the net view these members. */
+static void hand_report(struct child *c, uint64_t members) {
+    uint8_t report[18] = "NE";
+    put(report + 2, 8, members);
+    put(report + 10, 8, net_view(c) & ~members);
+    hand(c, report, sizeof report);
+}
+
+/* A number that another office may have reached: at the last mark, near the own number, or ahead. */
+static uint32_t some_number(const struct child *c) {
+    uint64_t number = (uint64_t)c->last + below(c->plan->reach + 1);
+    switch (below(4)) {
+    case 0: number = (uint64_t)c->last + (c->plan->reach > 0) - below(3); break;
+    case 1: number = (uint64_t)c->state[NUMBER] + below(3); break;
+    }
+    return number == 0 || number > UINT64_MAX - 3 ? 1 : number > L ? L : (uint32_t)number;
+}
+
+/* Now and then it uses the own number, so that proposals cross. */
+static void hand_proposal(struct child *c, unsigned sender, uint8_t kind, uint64_t members, uint32_t start,
+                          uint32_t number) {
+    uint8_t proposal[84] = {'P', 'R', (uint8_t)sender, kind};
+    if (number <= c->state[ACCEPTED + sender]) {
+        number = c->state[ACCEPTED + sender] + 1;
+    }
+    put(proposal + 4, 8, members);
+    put(proposal + 12, 4, start);
+    put(proposal + 16, 4, number);
+    put(proposal + 20 + 4 * c->office, 4, below(4) == 0 ? c->state[NUMBER] : 0);
+    put(proposal + 20 + 4 * sender, 4, below(2) == 0 ? number - 1 : 0);
+    hand(c, proposal, sizeof proposal);
+}
+
+/* Each other office of the members, seldom one less, proposes them. Slow ones all have one number, as slow agreement
+ * asks. */
+static void hand_proposals(struct child *c, uint64_t members) {
+    uint8_t kind = below(3) == 0 ? 2 : 1;
+    uint32_t together = some_number(c);
+    for (unsigned o = 0; o < 16; o++) {
+        if (o != c->office && (seats_of(o) & members) != 0 && below(8) > 0) {
+            hand_proposal(c, o, kind, members, some_number(c), kind == 2 ? together : some_number(c));
+        }
+    }
+}
+
+/* Seats of this office and the next, other than the net view. */
+static uint64_t two_offices(const struct child *c) {
+    uint64_t own = seats_of(c->office), first = own & -own;
+    return ((net_view(c) ^ first) & own) | first << 1 | (seats_of((c->office + 1) % 16) & 0x1111111111111111);
+}
+
+/* A proposal that is there before the report, and so far ahead that the first answer after a restart has a notice, a
+ * proposal and a view with a mark for each. */
+static void leap(struct child *c) {
+    uint64_t members = two_offices(c);
+    hand_proposal(c, (c->office + 1) % 16, 1, members, c->last + 3 * MARGIN, c->last + MARGIN / 2 * 3);
+    hand_report(c, members);
+}
+
+/* A view uses a proposal whose number alone is above the last mark; the next own proposal has it as a used number. */
+static void use(struct child *c) {
+    uint64_t members = two_offices(c);
+    hand_report(c, members);
+    hand_proposal(c, (c->office + 1) % 16, 1, members, c->state[START] + 1, c->last + MARGIN / 2);
+    hand_report(c, two_offices(c));
+}
+
+/* One of the two above, proposals that are there before the report, proposals after it, or a report alone. */
+static void event(struct child *c) {
+    uint32_t kind = below(8);
+    if (kind == 0 && c->plan->reach > 0) {
+        leap(c);
+    } else if (kind == 1 && c->plan->reach > 0) {
+        use(c);
+    } else if (kind < 4) {
+        uint64_t members = some_members(c);
+        hand_proposals(c, members);
+        hand_report(c, members);
+    } else if (kind < 6) {
+        hand_proposals(c, net_view(c));
+    } else {
+        hand_report(c, some_members(c));
+    }
+}
+
+/* The office begins, for the first time or again: the file is all that it has. */
+static void begin(struct child *c) {
+    uint8_t bytes[ROOM_FILE_BYTES + 1];
+    c->file = open(path, O_RDWR);
+    ssize_t got = c->file < 0 ? -1 : read(c->file, bytes, sizeof bytes);
+    if (got < 0) {
+        give_up();
+    }
+    size_t length = (size_t)got;
+    uint8_t refusal = c->plan->wrong == FRESH ? room_fresh(c->office, c->state, ROOM_STATE_WORDS)
+                                              : room_restart(c->office, bytes, length, c->state, ROOM_STATE_WORDS);
+    if (refusal != 0) {
+        give_up();
+    }
+    c->last = (uint32_t)(room_last_mark(bytes, length) / 256);
+    c->place = length / ROOM_MARK_BYTES * ROOM_MARK_BYTES;
+    c->tail = length - c->place;
+    if (c->plan->wrong == APPENDS) {
+        c->place = length;
+    }
+}
+
+static _Noreturn void live(const struct plan *plan, uint8_t office, int pipe, unsigned actions, uint64_t seed) {
+    static struct child c;
+    alarm(60); /* no child outlives a parent that was stopped */
+    c = (struct child){.plan = plan, .office = office, .pipe = pipe, .actions = actions, .note = {.mark = "CU"}};
+    drawn = seed;
+    begin(&c);
+    acted(&c, BEFORE_ALL);
+    if (plan->pairs > 0) {
+        leap(&c);
+    }
+    while (c.idle++ < IDLE) {
+        event(&c);
+    }
+    if (plan->actions > 0) {
+        cut(&c, IDLED);
+    }
+    while (true) {
+        pause();
+    }
+}
+
+/* The parent: a plan being played, with the file at hand from empty to its end. */
+struct run {
+    const struct plan *plan;
+    unsigned long *faults; /* of each check */
+    unsigned file, round;  /* each from 1 */
+    uint8_t office;
+    uint32_t seats[SEATS][ROOM_SEAT_WORDS];
+    uint32_t proposal, start, view; /* the highest that left in a proposal, a notice, a view */
+    int held;                       /* the file */
+    uint8_t bytes[ROOM_FILE_BYTES + 1];
+    size_t length;
+    uint32_t last;                  /* its last whole mark */
+    uint32_t reached;               /* the mark before the next record that is judged, */
+    size_t next;                    /* and the place of the one behind it */
+    struct note note;               /* of the last round, if its child had time for one */
+    bool over;
+    /* over all files of the plan */
+    unsigned rounds, ended;
+    unsigned long torn, marks, records;
+};
+
+/* What came in rounds whose child kills itself and does nothing wrong: files at a restart, cuts, answers, files. */
+static struct {
+    unsigned long torn[ROOM_MARK_BYTES], empty, thousand;
+    unsigned long cuts[CUTS], nth[4], mixed;
+    unsigned long answers[4], twice, viewed, foreign;
+    unsigned long ended, full;
+} seen;
+
+static unsigned passed, failed;
+
+static void remove_file(void) {
+    unlink(path);
+    rmdir(directory);
+}
+
+static void stopped(int signal) {
+    (void)signal;
+    remove_file();
+    _exit(1);
+}
+
+static void stop(const char *what) {
+    perror(what);
+    remove_file();
+    exit(1);
+}
+
+static void verdict(bool good, const char *name) {
+    passed += good;
+    failed += !good;
+    if (!good) {
+        printf("FAILED: %s\n", name);
+    }
+}
+
+static void fault(struct run *run, enum check check, uint32_t got, uint32_t held) {
+    static unsigned said;
+    run->faults[check]++;
+    if (run->plan->wrong == NOTHING && said++ < 10) {
+        printf("%s, file %u, round %u: not so: %s; %u against %u\n", run->plan->name, run->file, run->round,
+               check_names[check], (unsigned)got, (unsigned)held);
+    }
+}
+
+/* The last whole mark, read without the calls; above L where a whole record is no mark. */
+static uint32_t last_by_hand(const uint8_t *bytes, size_t length) {
+    uint32_t last = 0;
+    for (size_t at = 0; at + ROOM_MARK_BYTES <= length; at += ROOM_MARK_BYTES) {
+        uint32_t number = (uint32_t)get(bytes + at + 2, 4);
+        bool higher = number > (at == 0 ? 0 : last + MARGIN) || (number == L && last < L);
+        if (memcmp(bytes + at, "HM", 2) != 0 || number != get(bytes + at + 6, 4) || number > L || !higher) {
+            return L + 1;
+        }
+        last = number;
+    }
+    return last;
+}
+
+/* The file as a round left it. Of a wrong child too the calls must answer what the file is worth. */
+static void judge_file(struct run *run) {
+    uint32_t made[ROOM_STATE_WORDS], expected[ROOM_STATE_WORDS];
+    ssize_t got = pread(run->held, run->bytes, sizeof run->bytes, 0);
+    run->length = got < 0 ? 0 : (size_t)got;
+    run->last = last_by_hand(run->bytes, run->length);
+    bool sound = got >= 0 && run->length <= ROOM_FILE_BYTES && run->last <= L;
+    memset(made, 0xAA, sizeof made);
+    memset(expected, 0xAA, sizeof expected);
+    uint64_t mark = room_last_mark(run->bytes, run->length);
+    uint8_t refusal = room_restart(run->office, run->bytes, run->length, made, ROOM_STATE_WORDS);
+    if (!sound || refusal != 0) {
+        fault(run, RESTARTS, refusal, (uint32_t)run->length);
+    }
+    room_fresh(sound ? run->office : 0, expected, ROOM_STATE_WORDS);
+    if (sound) {
+        expected[NUMBER] = expected[START] = expected[VIEW_NUMBER] = run->last;
+    }
+    if (refusal != (sound ? 0 : 18) || mark != (sound ? 256ull * run->last : 18) ||
+        memcmp(made, expected, sizeof made) != 0) {
+        fault(run, BEGINS, (uint32_t)(mark / 256), run->last);
+    }
+}
+
+static void rises(struct run *run, enum check check, uint32_t *highest, uint32_t number) {
+    if (number <= *highest) {
+        fault(run, check, number, *highest);
+    }
+    *highest = number > *highest ? number : *highest;
+}
+
+/* The seats that are among the members hear the notice or view. They never begin again. */
+static void hear(struct run *run, const uint8_t *record, size_t size) {
+    for (unsigned s = 0; s < SEATS; s++) {
+        if (get(record + 6, 8) >> (SEATS * run->office + s) & 1) {
+            uint8_t refusal = room_seat_hear(run->seats[s], ROOM_SEAT_WORDS, record, size);
+            if (refusal != 0) {
+                fault(run, HEARD, refusal, 0);
+            }
+        }
+    }
+}
+
+/* Before a record with a number above the last mark there is one more, of its largest number plus the margin, or L. */
+static void judge_mark(struct run *run, uint32_t largest) {
+    if (largest > run->reached) {
+        run->reached = largest > L - MARGIN ? L : largest + MARGIN;
+        if (run->next + ROOM_MARK_BYTES > run->length || get(run->bytes + run->next + 2, 4) != run->reached) {
+            fault(run, MARKS, largest, run->reached);
+        }
+        run->next += ROOM_MARK_BYTES;
+    }
+}
+
+static void judge_record(struct run *run, const uint8_t *record, size_t size) {
+    bool proposal = memcmp(record, "PR", 2) == 0, view = memcmp(record, "VW", 2) == 0;
+    uint32_t own = (uint32_t)get(record + (proposal ? 16 : 2), 4), largest = own;
+    for (size_t at = proposal ? 12 : 14; at < size; at += 4) {
+        uint32_t number = (uint32_t)get(record + at, 4);
+        largest = number > largest ? number : largest;
+    }
+    if (largest > run->last) {
+        fault(run, BELOW, largest, run->last);
+    }
+    judge_mark(run, largest);
+    if (proposal) {
+        rises(run, PROPOSALS, &run->proposal, own);
+    } else {
+        rises(run, view ? VIEWS : NOTICES, view ? &run->view : &run->start, own);
+        hear(run, record, size);
+    }
+    run->records++;
+}
+
+static void count_note(const struct note *note) {
+    seen.cuts[note->cut]++;
+    seen.mixed += note->cut == IN_MARK && note->mixed;
+    seen.twice += note->twice;
+    seen.viewed += note->viewed;
+    seen.foreign += note->foreign;
+    for (unsigned i = 0; i < 4; i++) {
+        seen.answers[i] += note->answers[i];
+        seen.nth[i] += note->cut == IN_MARK && note->nth == i;
+    }
+}
+
+/* By its mark; 0 where it has none. */
+static size_t length_of(const uint8_t *record, size_t rest) {
+    static const char marks[3][3] = {"SC", "PR", "VW"};
+    static const size_t lengths[3] = {14, 84, 78};
+    for (int i = 0; i < 3; i++) {
+        if (rest >= 2 && memcmp(record, marks[i], 2) == 0) {
+            return lengths[i];
+        }
+    }
+    return 0;
+}
+
+/* All that left in a round, and behind it the note of a child that killed itself. */
+static void judge_pipe(struct run *run, const uint8_t *bytes, size_t length, bool at_limit) {
+    const size_t noted = sizeof run->note;
+    size_t size;
+    run->note = (struct note){.cut = CUTS};
+    for (size_t at = 0; at < length; at += size) {
+        const uint8_t *r = bytes + at;
+        size_t rest = length - at;
+        bool note = rest == noted && memcmp(r, "CU", 2) == 0;
+        size = note ? noted : length_of(r, rest);
+        if (size == 0 || size > rest) {
+            fault(run, WHOLE, (uint32_t)at, (uint32_t)length);
+            return;
+        }
+        if (note) {
+            memcpy(&run->note, r, noted);
+        } else {
+            judge_record(run, r, size);
+        }
+        if (at_limit && (!note || (run->note.cut == IDLED && run->note.refused == 0))) {
+            fault(run, CEILING, (uint32_t)size, 0);
+        }
+    }
+    if (run->next + 2 * ROOM_MARK_BYTES <= run->length) {
+        fault(run, MARKS, (uint32_t)run->next, (uint32_t)run->length);
+    }
+}
+
+/* Reads the pipe to its end, which comes when the child has gone. */
+static size_t read_pipe(int from, uint8_t *bytes, size_t room) {
+    size_t length = 0;
+    ssize_t got;
+    while (length < room && (got = read(from, bytes + length, room - length)) > 0) {
+        length += (size_t)got;
+    }
+    return length;
+}
+
+/* After how many actions the child of this round kills itself. */
+static unsigned allowed(const struct run *run) {
+    const struct plan *plan = run->plan;
+    if (plan->pairs == 0) {
+        return plan->actions > 0 ? below(plan->actions) : UINT_MAX;
+    }
+    unsigned first = (run->file - 1) / plan->pairs, second = (run->file - 1) % plan->pairs;
+    return run->round == 1 ? first : run->round == 2 ? second : plan->actions;
+}
+
+static void play_round(struct run *run) {
+    static uint8_t left[1 << 19];
+    const struct plan *plan = run->plan;
+    bool at_limit = run->last == L;
+    unsigned actions = allowed(run);
+    uint64_t seed = plan->pairs > 0 ? run->round : draw();
+    struct timespec wait = {.tv_nsec = 1000L * below(LONGEST_WAIT + 1)};
+    int ends[2], status = 0;
+    pid_t child = pipe(ends) == 0 ? fork() : -1;
+    if (child < 0) {
+        stop("no child can be made");
+    }
+    if (child == 0) {
+        close(ends[0]);
+        live(plan, run->office, ends[1], actions, seed);
+    }
+    close(ends[1]);
+    if (plan->actions == 0) {
+        nanosleep(&wait, NULL);
+        kill(child, SIGKILL);
+    }
+    size_t length = read_pipe(ends[0], left, sizeof left);
+    close(ends[0]);
+    waitpid(child, &status, 0);
+    if (!WIFSIGNALED(status) || WTERMSIG(status) != SIGKILL) {
+        fault(run, ENDS, (uint32_t)status, SIGKILL);
+    }
+    run->reached = run->last;
+    run->next = run->length / ROOM_MARK_BYTES * ROOM_MARK_BYTES;
+    judge_file(run);
+    judge_pipe(run, left, length, at_limit);
+    run->over = plan->pairs > 0 ? run->round == 3 : at_limit && (plan->actions == 0 || run->note.cut == IDLED);
+}
+
+static void begin_file(struct run *run) {
+    run->file++;
+    run->round = 0;
+    run->office = (uint8_t)below(16);
+    for (uint8_t s = 0; s < SEATS; s++) {
+        room_seat_fresh((uint8_t)(SEATS * run->office + s), run->seats[s], ROOM_SEAT_WORDS);
+    }
+    run->proposal = run->start = run->view = run->last = 0;
+    run->length = 0;
+    run->over = false;
+    run->held = open(path, O_RDWR | O_CREAT | O_TRUNC, 0600);
+    if (run->held < 0) {
+        stop(path);
+    }
+}
+
+/* What a plan ends with: any fault of a right child, and of a wrong one the fault that it must be found by. */
+static bool found(const struct run *run) {
+    for (enum check k = 0; k < CHECKS; k++) {
+        if (run->faults[k] > 0 && (run->plan->wrong == NOTHING || k == run->plan->finder)) {
+            return true;
+        }
+    }
+    return false;
+}
+
+/* The file that the next child finds. */
+static void count_restart(const struct run *run) {
+    seen.torn[run->length % ROOM_MARK_BYTES]++;
+    seen.empty += run->length < ROOM_MARK_BYTES;
+    seen.thousand += run->length / ROOM_MARK_BYTES >= 1000;
+}
+
+/* The rounds of a file until it is over. */
+static void play_file(struct run *run) {
+    const struct plan *plan = run->plan;
+    bool counted = plan->wrong == NOTHING && plan->actions > 0;
+    begin_file(run);
+    while (run->rounds < plan->rounds && !run->over && !found(run)) {
+        run->torn += run->length % ROOM_MARK_BYTES > 0;
+        if (counted && run->round > 0) {
+            count_restart(run);
+        }
+        run->round++;
+        run->rounds++;
+        play_round(run);
+        if (counted && run->note.cut < CUTS) {
+            count_note(&run->note);
+        }
+    }
+    close(run->held);
+    run->marks += run->length / ROOM_MARK_BYTES;
+    run->ended += run->over && run->last == L;
+    seen.ended += counted && run->over && run->last == L;
+    seen.full += counted && run->over && run->length == FULL_FILE * ROOM_MARK_BYTES;
+}
+
+/* The rounds of a plan, on one file after the other. */
+static void play(struct run *run, const struct plan *plan, unsigned long *faults, uint64_t seed) {
+    *run = (struct run){.plan = plan, .faults = faults};
+    drawn = seed;
+    while (run->rounds < plan->rounds && !found(run)) {
+        play_file(run);
+    }
+}
+
+/* The plans of children that do nothing wrong. */
+static const struct plan right[] = {
+    {"each two cuts of answers with three marks", 3000000, 60, 3 * PAIRS * PAIRS, PAIRS, NOTHING, CHECKS},
+    {"numbers up to 3,000,000 ahead", 3000000, 60, 3000, 0, NOTHING, CHECKS},
+    {"numbers up to 200,000,000 ahead", 200000000, 60, 1500, 0, NOTHING, CHECKS},
+    {"numbers near the last mark", 0, 120, 800, 0, NOTHING, CHECKS},
+    {"killed by the parent, numbers up to 3,000,000 ahead", 3000000, 0, 1500, 0, NOTHING, CHECKS},
+};
+
+/* And of children that do one thing wrong. */
+static const struct plan wrong[] = {
+    {"a child that sends a record before its mark", 3000000, 60, 1000, 0, RECORD_FIRST, BELOW},
+    {"a child that sends a record before the last byte of its mark", 3000000, 60, 1000, 0, NINE_BYTES, BELOW},
+    {"a child that asks for a mark once in an answer", 3000000, 60, 1000, 0, ONCE, BELOW},
+    {"a child that asks for a mark by its own numbers only", 3000000, 60, 1000, 0, OWN_NUMBERS, BELOW},
+    {"a child that forgets the mark it has put", 3000000, 60, 1000, 0, OLD_MARK, RESTARTS},
+    {"a child that puts a mark behind an unfinished one", 3000000, 60, 1000, 0, APPENDS, RESTARTS},
+    {"a child that begins again at the fresh state", 3000000, 60, 1000, 0, FRESH, NOTICES},
+};
+
+static void play_right(void) {
+    static struct run run;
+    unsigned long faults[CHECKS] = {0};
+    for (size_t i = 0; i < sizeof right / sizeof *right; i++) {
+        unsigned long mine[CHECKS] = {0};
+        play(&run, &right[i], mine, i);
+        printf("%s: %u rounds, %lu of them from an unfinished mark; %u files, %u to L; %lu marks, %lu records\n",
+               right[i].name, run.rounds, run.torn, run.file, run.ended, run.marks, run.records);
+        for (int k = 0; k < CHECKS; k++) {
+            faults[k] += mine[k];
+        }
+    }
+    for (int k = 0; k < CHECKS; k++) {
+        verdict(faults[k] == 0, check_names[k]);
+    }
+}
+
+static void play_wrong(void) {
+    static struct run run;
+    for (size_t i = 0; i < sizeof wrong / sizeof *wrong; i++) {
+        unsigned long mine[CHECKS] = {0};
+        play(&run, &wrong[i], mine, i);
+        if (found(&run)) {
+            printf("%s: caught in round %u; not so: %s\n", wrong[i].name, run.rounds, check_names[wrong[i].finder]);
+        }
+        verdict(found(&run) && mine[BEGINS] == 0, wrong[i].name);
+    }
+}
+
+static void came(unsigned long count, const char *what, const char *name) {
+    char whole[120];
+    snprintf(whole, sizeof whole, "%s %s", what, name);
+    printf("%s: %lu\n", whole, count);
+    verdict(count > 0, whole);
+}
+
+/* Each of these must have come. */
+static void judge_counts(void) {
+    static const char *const digits[] = {"0", "1", "2", "3", "4", "5", "6", "7", "8", "9"};
+    for (int i = 1; i < ROOM_MARK_BYTES; i++) {
+        came(seen.torn[i], "restarts from an unfinished mark of length", digits[i]);
+    }
+    came(seen.empty, "restarts from a file", "of 0 marks");
+    came(seen.thousand, "restarts from a file", "of at least 1,000 marks");
+    for (int i = 0; i < CUTS; i++) {
+        came(seen.cuts[i], "cuts", cut_names[i]);
+    }
+    came(seen.nth[1], "cuts inside", "the first mark of an answer");
+    came(seen.nth[2], "cuts inside", "the second mark of an answer");
+    came(seen.nth[3], "cuts inside", "the third mark of an answer");
+    came(seen.mixed, "cuts inside", "a mark with bytes of an older one behind");
+    came(seen.answers[2], "answers", "with two marks");
+    came(seen.answers[3], "answers", "with three marks");
+    came(seen.twice, "answers", "with a notice and two proposals");
+    came(seen.viewed, "answers", "with a notice, a proposal and a view");
+    came(seen.foreign, "marks", "that a used number alone calls for");
+    came(seen.ended, "files", "that end at L");
+    came(seen.full, "files", "that end at L with 2,000 marks");
+}
+
+int main(int count, char **words) {
+    const char *given = count > 1 ? words[1] : getenv("TMPDIR");
+    setvbuf(stdout, NULL, _IOLBF, 0);
+    snprintf(directory, sizeof directory, "%s/crash.XXXXXX", given != NULL ? given : "/tmp");
+    if (mkdtemp(directory) == NULL) {
+        perror(directory);
+        return 1;
+    }
+    snprintf(path, sizeof path, "%s/marks", directory);
+    signal(SIGINT, stopped);
+    signal(SIGTERM, stopped);
+    signal(SIGHUP, stopped);
+
+    play_right();
+    judge_counts();
+    play_wrong();
+
+    verdict(waitpid(-1, NULL, WNOHANG) < 0 && errno == ECHILD, "no child is left");
+    remove_file();
+    verdict(access(directory, F_OK) != 0, "no file is left");
+    printf("%u passed, %u failed\n", passed, failed);
+    return failed == 0 ? 0 : 1;
+}
