@@ -12,7 +12,7 @@
 
 #define ROOM 182
 
-static char path[] = "/tmp/office-0.XXXXXX";
+static char path[] = "office-0.XXXXXX"; /* in the working directory */
 
 static void remove_file(void) { unlink(path); }
 

@@ -3,7 +3,7 @@
  * A child kills itself after a number of actions, an action being one byte put into the file or one record sent. Those
  * rounds are the same in every run, and what must come is counted in them. Or its parent kills it at a moment, which
  * is another in every run. Children that do one thing wrong must each be caught by the same checks.
- * Argument: the directory for the file, else TMPDIR or /tmp. The last line is 'N passed, M failed'. */
+ * Argument: the directory for the file, else TMPDIR, else the working directory. The last line is 'N passed, M failed'. */
 #define _POSIX_C_SOURCE 200809L
 #include "room.h"
 
@@ -771,7 +771,7 @@ static void judge_counts(void) {
 int main(int count, char **words) {
     const char *given = count > 1 ? words[1] : getenv("TMPDIR");
     setvbuf(stdout, NULL, _IOLBF, 0);
-    snprintf(directory, sizeof directory, "%s/crash.XXXXXX", given != NULL ? given : "/tmp");
+    snprintf(directory, sizeof directory, "%s/crash.XXXXXX", given != NULL ? given : ".");
     if (mkdtemp(directory) == NULL) {
         perror(directory);
         return 1;

@@ -1,6 +1,6 @@
 // What an office that may lose its current calls from C: its file of high marks, the state with which it begins again,
 // the mark before a record leaves; include/room.h declares it.
-use restart::Before;
+use restart::DueMark;
 use restart::last_mark;
 use restart::mark_before;
 ghost use mathlib.Core.Path.{_≡_};
@@ -40,7 +40,7 @@ pub extern "C" fn room_last_mark(file: &[u8]) -> u64
     }
 }
 
-fn before_number(before: Before) -> u64
+fn before_number(before: DueMark) -> u64
     requires { ⌜ before .length ≤ proposalLength ⌝ }
     ensures { λ r. ⌜ r ≡ beforeNumber before ⌝ }
 {

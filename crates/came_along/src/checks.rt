@@ -7,11 +7,11 @@ use records::Sync;
 use records::View;
 use records::layout;
 use records::numbers::LIMIT;
+use records::reason;
 use seats::SEATS;
 ghost use mathlib.Core.Path.{_≡_};
 ghost use lib.ListN.{length};
 ghost use Rattle.laws.specs.Checks.{firstOf};
-ghost use Rattle.laws.specs.Upd.{ifb};
 ghost use Rattle.records.specs.Layout.{syncLength};
 ghost use Rattle.sheet.specs.Sheet.{noSheet, askedAbove, askChecks, noSeat, syncAbove};
 ghost use Rattle.came_along.specs.Record.{recordRead};
@@ -20,13 +20,6 @@ ghost use Rattle.came_along.specs.Record.{recordRead};
 const SHEET_RECORDS: usize = 512;
 
 const SHEET_LIMIT: usize = SHEET_RECORDS * layout::SYNC_LENGTH;
-
-// A reason where it applies, else what the rest of the list gives.
-fn reason(applies: bool, number: u8, rest: u8) -> u8
-    ensures { λ r. ⌜ r ≡ ifb applies number rest ⌝ }
-{
-    if applies { number } else { rest }
-}
 
 // Check 8 of what is asked.
 fn asked_above(v: View, previous: u32) -> bool

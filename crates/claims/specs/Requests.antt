@@ -30,7 +30,7 @@ use Rattle.sheet.specs.Days.{computedFull, statedFull}
 use Rattle.rules.specs.State.{State, zeros}
 use Rattle.rules.specs.Rules.{Written, view, nothingWritten, fresh, restarted, hasRecipient, repeats, viewOf}
 use Rattle.rules.specs.Rules.{reportRule}
-use Rattle.rules.specs.MarkFile.{fileLimit, allHigh, lastOf, lastHigh, goodFile}
+use Rattle.rules.specs.MarkFile.{fileLimit, allHigh, lastIn, lastHigh, goodFile}
 use Rattle.rules.specs.Refusals.{wellFormed, fullRoom, aReport, eventOf, stepOf, bytesOf, allBytes, accepted}
 use Rattle.rules.specs.Refusals.{restartOf}
 use Rattle.waiting.specs.declared.Waiting.the-variants as waits
@@ -155,7 +155,7 @@ pub record Request6 : Type 0 where
 pub record Request7 : Type 0 where
   -- Such marks are at most 2,001, and at most 2,000 while the last is not L.
   pub marks-count : (bs : List (List ℕ)) → allHigh 0 bs ≡ true
-      → (length bs ≤ 2_001) × ((lastOf 0 bs ≡ limit → ⊥) → length bs ≤ 2_000)
+      → (length bs ≤ 2_001) × ((lastIn 0 bs ≡ limit → ⊥) → length bs ≤ 2_000)
   -- From a fresh office and an empty file, cut off after any byte written to it or any record that left: an office
   -- always begins again at or above every number that left, and not above L;
   pub begins-above : (own : ℕ) → own < 16 → (ts : List FileTurn) → let us = turnsOf (freshKept own) ts in
@@ -167,7 +167,7 @@ pub record Request7 : Type 0 where
   pub own-file : (own : ℕ) → own < 16 → (ts : List FileTurn) → let f = keptAfter (freshKept own) ts .file in
       restartOf own f ≡ record { refusal = 0; state = restarted own (lastHigh f) }
   -- and never passes 20,010 bytes.
-  pub own-length : (own : ℕ) → own < 16 → (ts : List FileTurn)
+  pub own-file-length : (own : ℕ) → own < 16 → (ts : List FileTurn)
       → length (keptAfter (freshKept own) ts .file) ≤ fileLimit
   -- A seat that was fresh at first accepts all that leaves for it, over every restart of its office.
   pub desk-accepts-again : (seat : ℕ) → seat < seatCount → (ts : List FileTurn)

@@ -18,7 +18,7 @@ use Rattle.rules.specs.Refusals.{bytesOf, Result, takeOf, restartOf}
 use Rattle.rules.specs.Leaving.{Action, actionsOf, fileAfter, leftIn}
 use Rattle.rule_laws.proofs.Steps.{Refused, Takes, take-cases, step-takes, step-skips}
 use Rattle.runs.specs.Office.{answerTo}
-use Rattle.runs.specs.Files.{Kept, acts, cutAfter, done, restartAfter, nextKept, freshKept, leftKept, beginsWith}
+use Rattle.runs.specs.Files.{KeptOffice, acts, cutAfter, done, restartAfter, nextKept, freshKept, leftKept, beginsWith}
 use Rattle.runs.proofs.FilesOnce.{WellKept, kept-passes, kept-next, fresh-kept}
 use Rattle.desk.specs.Hearing.{freshDesk}
 use Rattle.desk_runs.specs.Sent.{OfSeats, sentTo, hearings}
@@ -73,12 +73,12 @@ input-fits h b = go (ℕ-discrete (checkOf (h .bytes)) 0)
 
 module _ (own : ℕ) (lt : own < 16) (out : List ℕ) (room : highLength ≤ length out) where
   -- words and file hold the office's state and file
-  record Same (k : RowKept) (q : Kept) (l : List Written) : Type 0 where
+  record Alike (k : RowKept) (q : KeptOffice) (l : List Written) : Type 0 where
     holds : Holds (k .words) (q .state)
     file : k .file ≡ q .file
     kept : WellKept own lt q l
 
-  module _ (k : RowKept) (q : Kept) (l : List Written) (s : Same k q l) where
+  module _ (k : RowKept) (q : KeptOffice) (l : List Written) (s : Alike k q l) where
     given : (h : Handed) → Holds (rowAnswer (k .words) h .words) (answerTo (q .state) (inputOf h) .state)
         × (rowAnswer (k .words) h .written ≡ answerTo (q .state) (inputOf h) .written)
     given h = rw (s .holds .1) at (answers (k .words) h (s .holds .0))
@@ -105,7 +105,7 @@ module _ (own : ℕ) (lt : own < 16) (out : List ℕ) (room : highLength ≤ len
     left-at : (t : RowTurn) → sentBy (movesAt own out k t) ≡ map bytesOf (leftIn (done q (readTurn t)))
     left-at t = rw (at-turn t) (sent-as (done q (readTurn t)))
 
-    next-same : (t : RowTurn) → (m : List Written) × Same (nextRow own out k t) (nextKept q (readTurn t)) m
+    next-same : (t : RowTurn) → (m : List Written) × Alike (nextRow own out k t) (nextKept q (readTurn t)) m
     unfolding nextKept restartAfter
     next-same (handed h) =
         let w = kept-next own lt q l (s .kept) (acts (inputOf h)) in
@@ -122,7 +122,7 @@ module _ (own : ℕ) (lt : own < 16) (out : List ℕ) (room : highLength ≤ len
         let y = subst (λ (o : ℕ). Holds ws (restartOf o f .state)) (sym (s .kept .is-own)) x in
         (w .0, record { holds = y; file = e; kept = w .1 })
 
-  row-left : (k : RowKept) (q : Kept) (l : List Written) → Same k q l → (ts : List RowTurn)
+  row-left : (k : RowKept) (q : KeptOffice) (l : List Written) → Alike k q l → (ts : List RowTurn)
       → rowLeft own out k ts ≡ map bytesOf (leftKept q (map readTurn ts))
   unfolding rowLeft leftKept
   row-left k q l s [] = refl

@@ -4,6 +4,7 @@ use crate::RecordKind;
 use crate::layout;
 ghost use mathlib.Core.Path.{_≡_};
 ghost use Prim.Native.Nat.{_+_, _*_, _<_};
+ghost use Rattle.laws.specs.Upd.{ifb};
 ghost use Rattle.records.specs.Layout.{markOf, formFor, formOf, checkFor, checkOf};
 
 fn wide16(x: u8) -> u16
@@ -73,4 +74,11 @@ pub fn check(bytes: &[u8]) -> u8
 {
     let f = form_of(bytes);
     check_for(f.length, bytes)
+}
+
+// In a list of checks: a reason where it applies, else what the rest of the list gives.
+pub fn reason(applies: bool, number: u8, rest: u8) -> u8
+    ensures { λ r. ⌜ r ≡ ifb applies number rest ⌝ }
+{
+    if applies { number } else { rest }
 }

@@ -19,6 +19,7 @@ pub use checks::check_for;
 pub use checks::form_of;
 pub use checks::get16;
 pub use checks::mark_of;
+pub use checks::reason;
 
 // The two kinds of a proposal.
 pub const FAST: u8 = 1;

@@ -25,7 +25,7 @@ use Rattle.record_bytes.proofs.views.Reading.{view-refusal, view-decoded}
 use Rattle.rules.specs.Rules.{notice, proposal, view}
 use Rattle.rules.specs.MarkFile.{highBytes}
 use Rattle.rules.specs.Leaving.{largestIn}
-use Rattle.restart.specs.declared.leaving.Before.{Before}
+use Rattle.restart.specs.declared.leaving.DueMark.{DueMark}
 use Rattle.restart.specs.Before.{leavingLength, frontLength, leavingRecord, frontLargest, readLargest}
 use Rattle.restart.specs.Before.{noRoom, noRecord, cutShort, leavesAbove, frontChecks, beforeChecks}
 use Rattle.restart.specs.Before.{markFor, noLeave, beforeOf, outBefore}
@@ -82,7 +82,7 @@ front-read rest t l =
     rw e at (read-largest (take n rest) (rw e some) (length-take-le n rest l ∙ ap leavingLength (sym e)))
 
 -- none of the first three checks applies
-pub record Fits (room n size : ℕ) : Type 0 where
+pub record FrontFits (room n size : ℕ) : Type 0 where
   pub room-for : noRoom room ≡ false
   pub marked : noRecord n ≡ false
   pub enough : cutShort n size ≡ false
@@ -97,7 +97,7 @@ three-first false true c r h = refl
 three-first false false true r h = refl
 three-first false false false r h = absurd (h refl)
 
-fits-out : (room n size : ℕ) → firstOf (frontChecks room n size) ≡ 0 → Fits room n size
+fits-out : (room n size : ℕ) → firstOf (frontChecks room n size) ≡ 0 → FrontFits room n size
 unfolding frontChecks
 fits-out room n size z =
     let h = first-none (noRoom room) 2 _ .0 z in
@@ -112,21 +112,12 @@ module _ (last : ℕ) (rest : List ℕ) (room : ℕ) where
       three-first (noRoom room) (noRecord (frontLength rest)) (cutShort (frontLength rest) (length rest)) _
       (λ z. h (e ∙ z)) ∙ sym e
 
-  pub first-8 : Fits room (frontLength rest) (length rest)
+  pub first-8 : FrontFits room (frontLength rest) (length rest)
       → firstOf (beforeChecks last rest room) ≡ ifb (leavesAbove last (frontLargest rest)) 8 0
   unfolding beforeChecks frontChecks
   first-8 f = rw (f .room-for, f .marked, f .enough)
 
-  -- where none of the four applies
-  pub all-pass : firstOf (beforeChecks last rest room) ≡ 0 → leavesAbove last (frontLargest rest) ≡ false
-  unfolding beforeChecks frontChecks
-  all-pass z =
-      let h = first-none (noRoom room) 2 _ .0 z in
-      let k = first-none (noRecord (frontLength rest)) 3 _ .0 (h .1) in
-      let l = first-none (cutShort (frontLength rest) (length rest)) 4 _ .0 (k .1) in
-      first-none (leavesAbove last (frontLargest rest)) 7 _ .0 (l .1) .0
-
-  pub before-leaves : Fits room (frontLength rest) (length rest) → leavesAbove last (frontLargest rest) ≡ false
+  pub before-leaves : FrontFits room (frontLength rest) (length rest) → leavesAbove last (frontLargest rest) ≡ false
       → beforeOf last rest room
       ≡ record { refusal = 0; length = frontLength rest; mark = markFor last (frontLargest rest) }
   unfolding beforeOf
@@ -146,7 +137,7 @@ module _ (last : ℕ) (rest : List ℕ) (room : ℕ) where
     at-front h = rw (first-3 r first h, ne-eqb r 0 h)
 
     module _ (z : r ≡ 0) where
-      fits : Fits room (frontLength rest) (length rest)
+      fits : FrontFits room (frontLength rest) (length rest)
       fits = fits-out room (frontLength rest) (length rest) (sym first ∙ z)
 
       pub within-rest : n ≤ length rest
@@ -165,9 +156,9 @@ module _ (last : ℕ) (rest : List ℕ) (room : ℕ) where
         at-leave t k e = rw (e, front, largest) (sym (before-leaves fits (rw largest at t)))
 
 -- the output
-module _ (last : ℕ) (rest out : List ℕ) (f : Before) (is-found : f ≡ beforeOf last rest (length out)) where
+module _ (last : ℕ) (rest out : List ℕ) (f : DueMark) (is-found : f ≡ beforeOf last rest (length out)) where
   found : beforeOf last rest (length out) .mark ≡ f .mark
-  found = ap (λ (x : Before). x .mark) (sym is-found)
+  found = ap (λ (x : DueMark). x .mark) (sym is-found)
 
   pub at-untouched : f .mark ≤ last → out ≡ outBefore last rest out
   unfolding outBefore

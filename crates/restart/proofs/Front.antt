@@ -1,5 +1,4 @@
--- The record in front of the bytes of an answer, as the call reads it: the record itself, its length and its largest
--- number.
+-- The record in front of the bytes of an answer, as the call reads it: its length and its largest number.
 use mathlib.Core.Path.{_≡_, sym, ap, _∙_}
 use mathlib.Core.Bool.{Bool, true, false}
 use mathlib.Core.List.{List, [], _∷_, _++_, append-nil}
@@ -8,13 +7,13 @@ use native.Mathlib.Omega.{arith}
 use lib.ListN.{length, getD, take, length-append}
 use lib.Seq.{take-at}
 use lib.Dec.{eqb, ltb}
-use borrow.Author.Tests.{eqb-true, ne-eqb, ltb-false, le-ltb}
+use borrow.Author.Tests.{ne-eqb, le-ltb}
 use Rattle.laws.specs.Big.{bytes4, bytes8, Below}
 use Rattle.laws.specs.Fin.{largest}
 use Rattle.laws.proofs.Big.{digits4, all-back}
 use Rattle.laws.specs.Checks.{firstOf}
 use Rattle.laws.specs.Upd.{ifb}
-use Rattle.laws.proofs.Fin.{if-cases, if-le, or-l, or-out, largest-le}
+use Rattle.laws.proofs.Fin.{if-cases, or-out, largest-le}
 use Rattle.records.specs.Numbers.{limit}
 use Rattle.records.specs.Layout.{noticeMark, proposalMark, viewMark, noticeLength, proposalLength, viewLength}
 use Rattle.records.specs.Layout.{highLength, valueOf, markOf, encodeNotice, encodeProposal, encodeView}
@@ -22,16 +21,14 @@ use Rattle.records.specs.Layout.{decodeNotice, decodeProposal, decodeView}
 use Rattle.records.proofs.CheckLaws.{long-mark}
 use Rattle.records.proofs.Lengths.{notice-length, proposal-length, view-length}
 use Rattle.records.proofs.NumberLaws.{sixteen-below}
-use Rattle.records.proofs.RoundTrip.{notice-back, proposal-back, view-back}
 use Rattle.rules.specs.Rules.{Written, notice, proposal, view}
 use Rattle.rules.specs.Refusals.{bytesOf}
-use Rattle.rules.specs.MarkFile.{nextHigh}
 use Rattle.rules.specs.Leaving.{largestIn}
-use Rattle.restart.specs.declared.leaving.Before.{Before}
-use Rattle.restart.specs.Before.{leavingLength, frontLength, leavingRecord, frontLargest, leavesAbove}
+use Rattle.restart.specs.declared.leaving.DueMark.{DueMark}
+use Rattle.restart.specs.Before.{leavingLength, frontLength, leavingRecord, frontLargest}
 use Rattle.restart.specs.Before.{beforeChecks, markFor, beforeOf}
-use Rattle.restart.specs.Caller.{FitsWritten, HasSixteen, FrontIs}
-use Rattle.restart.proofs.Exits.{Fits, before-leaves, all-pass}
+use Rattle.restart.specs.Caller.{HasSixteen}
+use Rattle.restart.proofs.Exits.{FrontFits, before-leaves}
 
 -- the value of its mark
 abbrev markValue : Written → ℕ
@@ -59,11 +56,6 @@ unfolding leavingRecord
 read-back (notice n) = rw (mark-own (notice n))
 read-back (proposal p) = rw (mark-own (proposal p))
 read-back (view v) = rw (mark-own (view v))
-
-back-same : (w : Written) → FitsWritten w → readBack w ≡ w
-back-same (notice n) f = ap notice (notice-back n f)
-back-same (proposal p) f = ap proposal (proposal-back p f)
-back-same (view v) f = ap view (view-back v f)
 
 -- sixteen numbers of which none is above L have room in four bytes each
 sixteen-low : (l : List ℕ) → length l ≡ 16 → largest 16 (λ o. getD l o 0) ≤ limit → Below (2 ^ 32) l
@@ -100,11 +92,6 @@ bytes-some (notice n) h = let e = notice-length n in omega arith
 bytes-some (proposal p) h = let e = proposal-length p h in omega arith
 bytes-some (view v) h = let e = view-length v h in omega arith
 
-pub fits-sixteen : (w : Written) → FitsWritten w → HasSixteen w
-fits-sixteen (notice n) f = tt
-fits-sixteen (proposal p) f = f .used .count
-fits-sixteen (view v) f = f .starts .count
-
 -- with any bytes behind it
 module _ (w : Written) (h : HasSixteen w) (behind : List ℕ) where
   pub front-length : frontLength (bytesOf w ++ behind) ≡ length (bytesOf w)
@@ -118,7 +105,7 @@ module _ (w : Written) (h : HasSixteen w) (behind : List ℕ) where
 
   -- and where it has no number above L
   module _ (l : largestIn w ≤ limit) (last : ℕ) (low : last ≤ limit) (room : ℕ) (fits : highLength ≤ room) where
-    passes : Fits room (frontLength (bytesOf w ++ behind)) (length (bytesOf w ++ behind))
+    passes : FrontFits room (frontLength (bytesOf w ++ behind)) (length (bytesOf w ++ behind))
     passes = record {
       room-for = le-ltb _ _ fits;
       marked = ne-eqb (frontLength (bytesOf w ++ behind)) 0
@@ -137,15 +124,7 @@ module _ (w : Written) (h : HasSixteen w) (behind : List ℕ) where
         (or-out (ltb limit last) (ltb limit x) (le-ltb limit last low) (le-ltb limit x low-too))
         ∙ rw (front-largest l, front-length)
 
--- where it fits its fields, what is read is the record itself
-pub front-is : (w : Written) → FitsWritten w → (behind : List ℕ) → FrontIs w (bytesOf w ++ behind)
-front-is w f behind =
-    let h = fits-sixteen w f in
-    let e : leavingRecord (take (frontLength (bytesOf w ++ behind)) (bytesOf w ++ behind)) ≡ w
-    = rw (front-part w h behind) (read-back w ∙ back-same w f) in
-    record { length-is = front-length w h behind; record-is = e; largest-is = ap largestIn e }
-
--- what the call answers is small: no length above a proposal's, no mark past L
+-- no record that leaves is longer than a proposal
 front-most : (m : ℕ) → leavingLength m ≤ proposalLength
 unfolding leavingLength
 front-most m = go (eqb m (valueOf noticeMark)) (eqb m (valueOf proposalMark)) (eqb m (valueOf viewMark))
@@ -156,19 +135,8 @@ front-most m = go (eqb m (valueOf noticeMark)) (eqb m (valueOf proposalMark)) (e
     go false false true = omega arith
     go false false false = omega arith
 
-mark-most : (last x : ℕ) → leavesAbove last x ≡ false → markFor last x ≤ limit
-mark-most last x t =
-    if-le (ltb last x) (nextHigh x) last limit (omega arith) (ltb-false limit last (or-l (ltb limit last) _ t))
-
-module _ (last : ℕ) (rest : List ℕ) (room : ℕ) where
-  pub before-length : beforeOf last rest room .length ≤ proposalLength
-  unfolding beforeOf
-  before-length =
-      if-cases (λ (b : Before). b .length ≤ proposalLength) (eqb (firstOf (beforeChecks last rest room)) 0) _ _
-      (λ e. front-most (markOf rest)) (λ e. omega arith)
-
-  pub before-mark : beforeOf last rest room .mark ≤ limit
-  unfolding beforeOf
-  before-mark =
-      if-cases (λ (b : Before). b .mark ≤ limit) (eqb (firstOf (beforeChecks last rest room)) 0) _ _
-      (λ e. mark-most last (frontLargest rest) (all-pass last rest room (eqb-true _ 0 e))) (λ e. omega arith)
+pub before-length : (last : ℕ) (rest : List ℕ) (room : ℕ) → beforeOf last rest room .length ≤ proposalLength
+unfolding beforeOf
+before-length last rest room =
+    if-cases (λ (b : DueMark). b .length ≤ proposalLength) (eqb (firstOf (beforeChecks last rest room)) 0) _ _
+    (λ e. front-most (markOf rest)) (λ e. omega arith)

@@ -16,8 +16,8 @@ use Rattle.records.proofs.CheckLaws.{own-4}
 use Rattle.record_bytes.specs.declared.highs.HighRead.{HighRead}
 use Rattle.record_bytes.specs.highs.Read.{readHigh}
 use Rattle.record_bytes.proofs.highs.Reading.{high-refusal, high-decoded}
-use Rattle.rules.specs.MarkFile.{wholeCount, wholes, follows, highNumber, isHigh, allHigh, lastOf, lastHigh}
-use Rattle.restart.specs.Marks.{readsHigh, noMarks, passOf}
+use Rattle.rules.specs.MarkFile.{wholeCount, wholes, mayFollow, highNumber, isHigh, allHigh, lastIn, lastHigh}
+use Rattle.restart.specs.Marks.{readsHigh, noMarks, marksIn}
 
 -- a record of a mark's length is one by what its reader tells
 reads-high : (p : ℕ) (b : List ℕ) → length b ≡ highLength → readsHigh p (readHigh b) ≡ isHigh p b
@@ -29,7 +29,7 @@ reads-high p b size = go (eqb (valueOf b) (valueOf highMark)) refl
         high-refusal b ∙ own-4 highMark highLength b size (omega arith) ∙ rw (le-ltb (length b) 2 (omega arith), d)
 
     go : (t : Bool) → eqb (valueOf b) (valueOf highMark) ≡ t
-        → readsHigh p (readHigh b) ≡ t && eqb (highNumber b) (decodeHigh b .again) && follows p (highNumber b)
+        → readsHigh p (readHigh b) ≡ t && eqb (highNumber b) (decodeHigh b .again) && mayFollow p (highNumber b)
     go true d = let z : readHigh b .refusal ≡ 0 = number true d in rw (z, high-decoded b z)
     go false d = rw (number false d)
 
@@ -41,7 +41,7 @@ module _ (f : List ℕ) where
   -- the pass after k marks, the last of which is p: the rest of the file tells what the whole does
   pub record Going (k p : ℕ) : Type 0 where
     pub all : allHigh p (behind k) ≡ allHigh 0 (wholes f)
-    pub end : lastOf p (behind k) ≡ lastHigh f
+    pub end : lastIn p (behind k) ≡ lastHigh f
 
   pub going-none : Going 0 0
   unfolding lastHigh
@@ -78,16 +78,16 @@ module _ (f : List ℕ) where
             rw (e, high-decoded next (z .0 .0))
 
         pub going-next : t ≡ true → Going (k + 1) (read .high .number)
-        unfolding allHigh lastOf
+        unfolding allHigh lastIn
         going-next y = record {
           all = rw (number y, ← g .all, behind-next, ← is, y);
           end = rw (number y, ← g .end, behind-next);
         }
 
-        pub pass-bad : t ≡ false → noMarks ≡ passOf f
-        unfolding passOf allHigh
+        pub pass-bad : t ≡ false → noMarks ≡ marksIn f
+        unfolding marksIn allHigh
         pass-bad n = rw (← g .all, behind-next, ← is, n)
 
-  pub pass-end : (k p : ℕ) → k ≡ wholeCount f → Going k p → record { good = true; last = p } ≡ passOf f
-  unfolding passOf allHigh lastOf pieces
+  pub pass-end : (k p : ℕ) → k ≡ wholeCount f → Going k p → record { good = true; last = p } ≡ marksIn f
+  unfolding marksIn allHigh lastIn pieces
   pass-end k p e g = let z : wholeCount f - k ≡ 0 = omega arith in rw (← g .all, ← g .end, z)

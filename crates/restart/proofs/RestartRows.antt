@@ -13,7 +13,7 @@ use Rattle.laws.specs.Lists.{pieces}
 use Rattle.laws.specs.Upd.{ifb}
 use Rattle.laws.proofs.Checks.{first-none}
 use Rattle.laws.proofs.Fin.{if-cases}
-use Rattle.rules.specs.MarkFile.{allHigh, lastOf, lastHigh, goodFile}
+use Rattle.rules.specs.MarkFile.{allHigh, lastIn, lastHigh, goodFile}
 use Rattle.rules.specs.Rules.{fresh, restarted}
 use Rattle.rules.specs.Refusals.{madeOf, restartChecks, restartOf}
 use Rattle.rule_laws.proofs.Parts.{fresh-restarted}
@@ -112,7 +112,7 @@ module _ (office : ℕ) (f : List ℕ) where
 
 -- an empty file starts fresh
 pub restart-empty : (office : ℕ) (ws : List ℕ) → restartRow office [] ws ≡ freshRow office ws
-unfolding restartRow freshRow restartOf restartChecks madeOf goodFile lastHigh allHigh lastOf pieces
+unfolding restartRow freshRow restartOf restartChecks madeOf goodFile lastHigh allHigh lastIn pieces
 restart-empty office ws = go (decLt 15 office)
   where
     go : Dec (15 < office) → restartRow office [] ws ≡ freshRow office ws

@@ -16,7 +16,7 @@ use Rattle.record_bytes.specs.views.Read.{readView}
 use Rattle.rules.specs.Rules.{Written, notice, proposal, view}
 use Rattle.rules.specs.MarkFile.{nextHigh, highBytes}
 use Rattle.rules.specs.Leaving.{largestIn}
-use Rattle.restart.specs.declared.leaving.Before.{Before}
+use Rattle.restart.specs.declared.leaving.DueMark.{DueMark}
 
 -- the length of a start notice, proposal or view, by the value of its mark; 0 where the mark is none of theirs
 unfoldable pub leavingLength : ℕ → ℕ
@@ -74,10 +74,10 @@ beforeChecks last rest room =
 abbrev pub markFor : ℕ → ℕ → ℕ
 markFor last x = ifb (ltb last x) (nextHigh x) last
 
-abbrev pub noLeave : ℕ → Before
+abbrev pub noLeave : ℕ → DueMark
 noLeave n = record { refusal = n; length = 0; mark = 0 }
 
-unfoldable pub beforeOf : ℕ → List ℕ → ℕ → Before
+unfoldable pub beforeOf : ℕ → List ℕ → ℕ → DueMark
 beforeOf last rest room =
     let n = firstOf (beforeChecks last rest room) in
     ifb (eqb n 0) (record { refusal = 0; length = frontLength rest; mark = markFor last (frontLargest rest) })

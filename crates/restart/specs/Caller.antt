@@ -6,13 +6,12 @@ use Prim.Native.Nat.{ℕ, zero, suc, _+_}
 use lib.ListN.{length, take, drop}
 use lib.Dec.{eqb, ltb}
 use Rattle.laws.specs.Upd.{ifb}
-use Rattle.records.specs.Fits.{FitsNotice, FitsProposal, FitsView}
 use Rattle.records.specs.Layout.{highLength}
 use Rattle.rules.specs.Rules.{Written, notice, proposal, view}
 use Rattle.rules.specs.Refusals.{bytesOf}
 use Rattle.rules.specs.MarkFile.{wholeEnd, lastHigh}
-use Rattle.rules.specs.Leaving.{largestIn, Action, puts, leaves, actionsOf, withByte, fileAfter, leftIn}
-use Rattle.restart.specs.Before.{frontLength, leavingRecord, frontLargest, beforeOf, outBefore}
+use Rattle.rules.specs.Leaving.{Action, puts, leaves, actionsOf, withByte, fileAfter, leftIn}
+use Rattle.restart.specs.Before.{beforeOf, outBefore}
 
 -- a byte goes to a place of the file; the bytes of a record leave
 pub data Move : Type 0 where
@@ -68,19 +67,8 @@ pub record MovesAs (f : List ℕ) (ws : List Written) (ms : List Move) : Type 0 
   pub file : (n : ℕ) → filedBy f (take n ms) ≡ fileAfter f (take n (actionsOf f ws))
   pub left : (n : ℕ) → sentBy (take n ms) ≡ map bytesOf (leftIn (take n (actionsOf f ws)))
 
--- a record fits its fields; less: where its form has sixteen numbers it has sixteen
-abbrev pub FitsWritten : Written → Type 0
-FitsWritten (notice n) = FitsNotice n
-FitsWritten (proposal p) = FitsProposal p
-FitsWritten (view v) = FitsView v
-
+-- where a record has sixteen numbers by its form, it has sixteen
 abbrev pub HasSixteen : Written → Type 0
 HasSixteen (notice n) = Unit {0}
 HasSixteen (proposal p) = length (p .used) ≡ 16
 HasSixteen (view v) = length (v .starts) ≡ 16
-
--- the call reads the record w from the front of these bytes
-pub record FrontIs (w : Written) (rest : List ℕ) : Type 0 where
-  pub length-is : frontLength rest ≡ length (bytesOf w)
-  pub record-is : leavingRecord (take (frontLength rest) rest) ≡ w
-  pub largest-is : frontLargest rest ≡ largestIn w

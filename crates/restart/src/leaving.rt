@@ -12,11 +12,11 @@ use records::View;
 use records::layout;
 use records::mark_of;
 use records::numbers::LIMIT;
+use records::reason;
 ghost use mathlib.Core.Path.{_≡_};
 ghost use lib.ListN.{length, getD};
 ghost use Rattle.laws.specs.Checks.{firstOf};
 ghost use Rattle.laws.specs.Fin.{largest};
-ghost use Rattle.laws.specs.Upd.{ifb};
 ghost use Rattle.rules.specs.Rules.{notice, proposal, view};
 ghost use Rattle.rules.specs.MarkFile.{nextHigh};
 ghost use Rattle.rules.specs.Leaving.{largestIn};
@@ -24,7 +24,7 @@ ghost use Rattle.restart.specs.Before.{leavingLength, readLargest, noRoo
 ghost use Rattle.restart.specs.Before.{frontChecks, markFor, noLeave, beforeOf, outBefore};
 
 // The refusal, the length of the record in front and the last mark once it may leave; zeros with a refusal.
-pub struct Before {
+pub struct DueMark {
     pub refusal: u8,
     pub length: usize,
     pub mark: u32,
@@ -126,13 +126,6 @@ fn leaves_above(last: u32, largest: u32) -> bool
     (LIMIT < last) | (LIMIT < largest)
 }
 
-// A reason where it applies, else what the rest of the list gives.
-fn reason(applies: bool, number: u8, rest: u8) -> u8
-    ensures { λ r. ⌜ r ≡ ifb applies number rest ⌝ }
-{
-    if applies { number } else { rest }
-}
-
 // The first of checks 3, 4 and 5 that applies, 0 where none does.
 fn front_refusal(room: usize, length: usize, size: usize) -> u8
     ensures { λ r. ⌜ r ≡ firstOf (frontChecks room length size) ⌝ }
@@ -166,10 +159,10 @@ fn mark_for(last: u32, largest: u32) -> u32
 }
 
 // Zeros with the number.
-fn refuse(refusal: u8) -> Before
+fn refuse(refusal: u8) -> DueMark
     ensures { λ r. ⌜ r ≡ noLeave refusal ⌝ }
 {
-    Before {
+    DueMark {
         refusal,
         length: 0,
         mark: 0,
@@ -177,7 +170,7 @@ fn refuse(refusal: u8) -> Before
 }
 
 // What is answered where the output has so much room. The record in front is a part of the bytes themselves.
-fn answer_for(last: u32, rest: &[u8], room: usize) -> Before
+fn answer_for(last: u32, rest: &[u8], room: usize) -> DueMark
     ensures { λ r. ⌜ r ≡ beforeOf last (now (rest .entry)) room ⌝ }
 {
     let value = mark_of(rest);
@@ -191,7 +184,7 @@ fn answer_for(last: u32, rest: &[u8], room: usize) -> Before
         return refuse(8);
     }
     let mark = mark_for(last, largest);
-    Before {
+    DueMark {
         refusal: 0,
         length,
         mark,
@@ -199,7 +192,7 @@ fn answer_for(last: u32, rest: &[u8], room: usize) -> Before
 }
 
 // Any last mark, any bytes, any output. Where a mark is due it stands at the start of the output.
-pub fn mark_before(last: u32, rest: &[u8], out: &mut [u8]) -> Before
+pub fn mark_before(last: u32, rest: &[u8], out: &mut [u8]) -> DueMark
     ensures { λ r. ⌜ (r ≡ beforeOf last (now (rest .entry)) (length (now (out .entry))))
         × (now (out .exit) ≡ outBefore last (now (rest .entry)) (now (out .entry))) ⌝ }
 {

@@ -10,7 +10,7 @@ mod restarting;
 // What must happen before a record may leave.
 mod leaving;
 
-pub use leaving::Before;
+pub use leaving::DueMark;
 pub use leaving::mark_before;
 pub use marks::Marks;
 pub use marks::last_mark;

@@ -8,8 +8,8 @@ ghost use mathlib.Core.Path.{_≡_};
 ghost use Prim.Native.Nat.{_+_};
 ghost use lib.Dec.{eqb};
 ghost use Rattle.laws.specs.Upd.{ifb};
-ghost use Rattle.rules.specs.MarkFile.{gap, follows};
-ghost use Rattle.restart.specs.Marks.{readsHigh, passOf, marksOf};
+ghost use Rattle.rules.specs.MarkFile.{gap, mayFollow};
+ghost use Rattle.restart.specs.Marks.{readsHigh, marksIn, marksOf};
 
 // How far a mark reaches above the number for which it is written.
 pub const GAP: u32 = 1_000_000;
@@ -32,7 +32,7 @@ fn least(p: u32) -> u64
 
 // Whether a mark of number n may come after one of number p, 0 before the first.
 fn may_follow(p: u32, n: u32) -> bool
-    ensures { λ r. ⌜ r ≡ follows p n ⌝ }
+    ensures { λ r. ⌜ r ≡ mayFollow p n ⌝ }
 {
     (n <= LIMIT) & ((least(p) < n as u64) | ((n == LIMIT) & (p < LIMIT)))
 }
@@ -47,7 +47,7 @@ fn is_high(p: u32, read: HighRead) -> bool
 
 // Each record is a part of the file itself. The first that is no mark ends it.
 fn pass(file: &[u8]) -> Marks
-    ensures { λ r. ⌜ r ≡ passOf (now (file .entry)) ⌝ }
+    ensures { λ r. ⌜ r ≡ marksIn (now (file .entry)) ⌝ }
 {
     let count = file.len() / layout::HIGH_LENGTH;
     let mut last: u32 = 0;

@@ -17,8 +17,8 @@ use Rattle.laws.specs.Upd.{ifb}
 use Rattle.laws.proofs.Fin.{largest-below}
 use Rattle.records.specs.Numbers.{limit}
 use Rattle.records.specs.Layout.{highLength, encodeHigh}
-use Rattle.rules.specs.MarkFile.{wholeEnd, allHigh, lastOf, lastHigh, goodFile, nextHigh, highBytes}
-use Rattle.rule_laws.proofs.MarkFile.{flat, Whole, flat-snoc, last-snoc, all-snoc, high-number, high-is}
+use Rattle.rules.specs.MarkFile.{wholeEnd, allHigh, lastIn, lastHigh, goodFile, nextHigh, highBytes}
+use Rattle.rule_laws.proofs.MarkFile.{flat, Whole, flat-snoc, last-snoc, all-high-snoc, high-number, high-is}
 use Rattle.rule_laws.proofs.MarkFile.{next-follows, whole-last, whole-end, last-within}
 use Rattle.rule_laws.proofs.MarkCount.{whole-passes}
 use Rattle.rules.specs.State.{State, usedFor}
@@ -136,10 +136,10 @@ record LeavesFrom (f : List ℕ) (last : ℕ) (ws : List Written) (done : List A
   rest : List ℕ
   whole : Whole (fileAfter f done) marks rest
   good : allHigh 0 marks ≡ true
-  ended : lastOf 0 marks ≡ limit → rest ≡ []
-  rises : last ≤ lastOf 0 marks
+  ended : lastIn 0 marks ≡ limit → rest ≡ []
+  rises : last ≤ lastIn 0 marks
   front : leftIn done ≡ take (length (leftIn done)) ws
-  covered : Every (λ w. largestIn w ≤ lastOf 0 marks) (leftIn done)
+  covered : Every (λ w. largestIn w ≤ lastIn 0 marks) (leftIn done)
 
 -- behind bytes that were put
 after-puts : (f : List ℕ) (place : ℕ) (c : List ℕ) (low last : ℕ) (ws : List Written) (done : List Action) → low ≤ last
@@ -161,9 +161,9 @@ after-puts f place c low last ws done l x =
 
 -- whatever number of actions is done
 leaves-from : (ws : List Written) (f : List ℕ) (bs : List (List ℕ)) (t : List ℕ) → Whole f bs t
-    → allHigh 0 bs ≡ true → (lastOf 0 bs ≡ limit → t ≡ [])
+    → allHigh 0 bs ≡ true → (lastIn 0 bs ≡ limit → t ≡ [])
     → Every (λ w. largestIn w ≤ limit) ws → (n : ℕ)
-    → LeavesFrom f (lastOf 0 bs) ws (take n (actionsFrom (lastOf 0 bs) (length (flat bs)) ws))
+    → LeavesFrom f (lastIn 0 bs) ws (take n (actionsFrom (lastIn 0 bs) (length (flat bs)) ws))
 unfolding actionsFrom fileAfter leftIn
 leaves-from [] f bs t w g z none n =
     rw (take-none n) (record {
@@ -179,10 +179,10 @@ leaves-from [] f bs t w g z none n =
 leaves-from (v ∷ ws) f bs t w g z (more l ls) n =
     go (ltb last (largestIn v)) refl
     (λ (f : List ℕ) (bs : List (List ℕ)) (t : List ℕ) (w : Whole f bs t) (g : allHigh 0 bs ≡ true)
-    (z : lastOf 0 bs ≡ limit → t ≡ []) (n : ℕ). leaves-from ws f bs t w g z ls n) n
+    (z : lastIn 0 bs ≡ limit → t ≡ []) (n : ℕ). leaves-from ws f bs t w g z ls n) n
   where
     last : ℕ
-    last = lastOf 0 bs
+    last = lastIn 0 bs
 
     m : ℕ
     m = nextHigh (largestIn v)
@@ -192,13 +192,13 @@ leaves-from (v ∷ ws) f bs t w g z (more l ls) n =
 
     Later : Type 0
     Later = (f : List ℕ) (bs : List (List ℕ)) (t : List ℕ) → Whole f bs t → allHigh 0 bs ≡ true
-        → (lastOf 0 bs ≡ limit → t ≡ []) → (n : ℕ)
-        → LeavesFrom f (lastOf 0 bs) ws (take n (actionsFrom (lastOf 0 bs) (length (flat bs)) ws))
+        → (lastIn 0 bs ≡ limit → t ≡ []) → (n : ℕ)
+        → LeavesFrom f (lastIn 0 bs) ws (take n (actionsFrom (lastIn 0 bs) (length (flat bs)) ws))
 
     -- the record leaves, where the last mark is not below its numbers
     one : (f : List ℕ) (bs : List (List ℕ)) (t : List ℕ) → Whole f bs t → allHigh 0 bs ≡ true
-        → (lastOf 0 bs ≡ limit → t ≡ []) → largestIn v ≤ lastOf 0 bs → Later → (n : ℕ)
-        → LeavesFrom f (lastOf 0 bs) (v ∷ ws) (take n (leaves v ∷ actionsFrom (lastOf 0 bs) (length (flat bs)) ws))
+        → (lastIn 0 bs ≡ limit → t ≡ []) → largestIn v ≤ lastIn 0 bs → Later → (n : ℕ)
+        → LeavesFrom f (lastIn 0 bs) (v ∷ ws) (take n (leaves v ∷ actionsFrom (lastIn 0 bs) (length (flat bs)) ws))
     one f bs t w g z h later zero =
         record {
           marks = bs;
@@ -213,7 +213,7 @@ leaves-from (v ∷ ws) f bs t w g z (more l ls) n =
     one f bs t w g z h later (suc n) =
         let x = later f bs t w g z n in
         let r = x .rises in
-        let c : largestIn v ≤ lastOf 0 (x .marks) = omega arith in
+        let c : largestIn v ≤ lastIn 0 (x .marks) = omega arith in
         record {
           marks = x .marks;
           rest = x .rest;
@@ -237,11 +237,11 @@ leaves-from (v ∷ ws) f bs t w g z (more l ls) n =
         ten : length (putsAll place (highBytes m)) ≡ highLength
         ten = length-puts place (highBytes m) ∙ mark-length f bs t w m
 
-        next : (allHigh 0 (bs ++ (highBytes m ∷ [])) ≡ true) × (lastOf 0 (bs ++ (highBytes m ∷ [])) ≡ m)
+        next : (allHigh 0 (bs ++ (highBytes m ∷ [])) ≡ true) × (lastIn 0 (bs ++ (highBytes m ∷ [])) ≡ m)
             × (length (flat (bs ++ (highBytes m ∷ []))) ≡ place + highLength)
         next =
             let f = next-follows last (largestIn v) h l in (
-              all-snoc 0 bs (highBytes m) g (high-is last m (f .2) (f .0)),
+              all-high-snoc 0 bs (highBytes m) g (high-is last m (f .2) (f .0)),
               last-snoc 0 bs (highBytes m) ∙ high-number m (f .2),
               ap length (flat-snoc bs (highBytes m)) ∙ length-append (flat bs) (highBytes m)
                   ∙ ap (λ (k : ℕ). place + k) (mark-length f' bs t w m),
@@ -290,7 +290,7 @@ leaves-from (v ∷ ws) f bs t w g z (more l ls) n =
     go false e later n = one f bs t w g z (ltb-false last (largestIn v) e) later n
 
 -- all of them: every record leaves
-pub left-all : (last place : ℕ) (ws : List Written) → leftIn (actionsFrom last place ws) ≡ ws
+left-all : (last place : ℕ) (ws : List Written) → leftIn (actionsFrom last place ws) ≡ ws
 unfolding actionsFrom leftIn
 left-all last place [] = refl
 left-all last place (v ∷ ws) = go (ltb last (largestIn v)) (left-all (nextHigh (largestIn v)) (place + highLength) ws)
@@ -314,7 +314,7 @@ pub record MarksInOrder (f : List ℕ) : Type 0 where
   pub rest : List ℕ
   pub whole : Whole f marks rest
   pub good : allHigh 0 marks ≡ true
-  pub ended : lastOf 0 marks ≡ limit → rest ≡ []
+  pub ended : lastIn 0 marks ≡ limit → rest ≡ []
 
 pub no-marks : MarksInOrder []
 no-marks = record {
@@ -330,7 +330,7 @@ module _ (f : List ℕ) (o : MarksInOrder f) where
   pub order-passes : goodFile f ≡ true
   order-passes = whole-passes f (o .marks) (o .rest) (o .whole) (o .good) (o .ended)
 
-  order-last : lastHigh f ≡ lastOf 0 (o .marks)
+  order-last : lastHigh f ≡ lastIn 0 (o .marks)
   order-last = whole-last f (o .marks) (o .rest) (o .whole)
 
   pub order-within : lastHigh f ≤ limit
@@ -338,19 +338,19 @@ module _ (f : List ℕ) (o : MarksInOrder f) where
 
 -- after some actions: the file is in order, its last mark has not fallen, what left is a front part of the answer, and
 -- no number of it is above the last mark
-pub record Leaves (f : List ℕ) (ws : List Written) (done : List Action) : Type 0 where
-  pub order : MarksInOrder (fileAfter f done)
-  pub rises : lastHigh f ≤ lastHigh (fileAfter f done)
-  pub front : leftIn done ≡ take (length (leftIn done)) ws
-  pub covered : Every (λ w. largestIn w ≤ lastHigh (fileAfter f done)) (leftIn done)
+record SomeLeft (f : List ℕ) (ws : List Written) (done : List Action) : Type 0 where
+  order : MarksInOrder (fileAfter f done)
+  rises : lastHigh f ≤ lastHigh (fileAfter f done)
+  front : leftIn done ≡ take (length (leftIn done)) ws
+  covered : Every (λ w. largestIn w ≤ lastHigh (fileAfter f done)) (leftIn done)
 
 -- whatever number of actions is done
-pub leaves-after : (f : List ℕ) (ws : List Written) → MarksInOrder f → Every (λ w. largestIn w ≤ limit) ws → (n : ℕ)
-    → Leaves f ws (take n (actionsOf f ws))
-leaves-after f ws o low n =
+some-left : (f : List ℕ) (ws : List Written) → MarksInOrder f → Every (λ w. largestIn w ≤ limit) ws → (n : ℕ)
+    → SomeLeft f ws (take n (actionsOf f ws))
+some-left f ws o low n =
     let g = fileAfter f (take n (actionsOf f ws)) in
     let b = order-last f o in
-    let x : LeavesFrom f (lastOf 0 (o .marks)) ws (take n (actionsOf f ws))
+    let x : LeavesFrom f (lastIn 0 (o .marks)) ws (take n (actionsOf f ws))
     = rw (b, whole-end f (o .marks) (o .rest) (o .whole))
     (leaves-from ws f (o .marks) (o .rest) (o .whole) (o .good) (o .ended) low n) in
     let after : MarksInOrder g
@@ -391,24 +391,25 @@ pub covering-above : {X : Type 0} (what : X → Written) (f : List ℕ) (l : Lis
 covering-above what f l c =
     (every-map (λ x e. let o = own-largest (what x) in omega arith) (c .covered), order-within f (c .order))
 
--- some or all of an answer leave: they join what had left, and the file covers them
-module _ (f : List ℕ) (l ws : List Written) (c : Covering (λ w. w) f l)
-    (low : Every (λ w. largestIn w ≤ limit) ws) where
+-- Some or all of an answer leave: they join what had left, l, in whatever form that is kept, and the file covers them.
+module _ {X : Type 0} (what : X → Written) (l : List X) (join : List Written → List X)
+    (joins : (P : Written → Type 0) (us : List Written) → Every P us → Every (λ x. P (what x)) l
+    → Every (λ x. P (what x)) (join us))
+    (f : List ℕ) (ws : List Written) (c : Covering what f l) (low : Every (λ w. largestIn w ≤ limit) ws) where
   pub part-covers : (n : ℕ) → let done = take n (actionsOf f ws) in (leftIn done ≡ take (length (leftIn done)) ws)
-      × Covering (λ w. w) (fileAfter f done) (l ++ take (length (leftIn done)) ws)
+      × Covering what (fileAfter f done) (join (take (length (leftIn done)) ws))
   part-covers n =
-      let x = leaves-after f ws (c .order) low n in
+      let x = some-left f ws (c .order) low n in
       let r = x .rises in
-      let g = fileAfter f (take n (actionsOf f ws)) in (
+      let P : Written → Type 0 = λ w. largestIn w ≤ lastHigh (fileAfter f (take n (actionsOf f ws))) in (
         x .front,
         record {
           order = x .order;
-          covered = every-append (every-map (λ w e. omega arith) (c .covered))
-              (subst (Every (λ w. largestIn w ≤ lastHigh g)) (x .front) (x .covered));
+          covered = joins P _ (subst (Every P) (x .front) (x .covered)) (every-map (λ y e. omega arith) (c .covered));
         },
       )
 
-  pub all-covers : (leftIn (actionsOf f ws) ≡ ws) × Covering (λ w. w) (fileAfter f (actionsOf f ws)) (l ++ ws)
+  pub all-covers : (leftIn (actionsOf f ws) ≡ ws) × Covering what (fileAfter f (actionsOf f ws)) (join ws)
   all-covers =
       let n = length (actionsOf f ws) in
       let e : take n (actionsOf f ws) ≡ actionsOf f ws = take-all n (actionsOf f ws) (omega arith) in

@@ -15,8 +15,8 @@ use Rattle.laws.specs.Upd.{ifb}
 use Rattle.laws.proofs.Big.{digits4}
 use Rattle.records.specs.Numbers.{limit, within}
 use Rattle.records.specs.Layout.{highLength, encodeHigh, decodeHigh}
-use Rattle.rules.specs.MarkFile.{gap, fileLimit, wholeCount, wholeEnd, wholes, follows, highNumber, isHigh, allHigh}
-use Rattle.rules.specs.MarkFile.{lastOf, lastHigh, goodFile, nextHigh, highBytes}
+use Rattle.rules.specs.MarkFile.{gap, fileLimit, wholeCount, wholeEnd, wholes, mayFollow, highNumber, isHigh, allHigh}
+use Rattle.rules.specs.MarkFile.{lastIn, lastHigh, goodFile, nextHigh, highBytes}
 
 -- records end to end
 abbrev pub flat : List (List ℕ) → List ℕ
@@ -63,9 +63,9 @@ module _ (f : List ℕ) (bs : List (List ℕ)) (t : List ℕ) (w : Whole f bs t)
   wholes-are = rw (whole-count, w .is) (pieces-flat bs t (w .tens))
 
   -- the last whole mark does not depend on what is unfinished
-  pub whole-last : lastHigh f ≡ lastOf 0 bs
+  pub whole-last : lastHigh f ≡ lastIn 0 bs
   unfolding lastHigh
-  whole-last = ap (lastOf 0) wholes-are
+  whole-last = ap (lastIn 0) wholes-are
 
   pub whole-good : length f ≤ fileLimit → allHigh 0 bs ≡ true → goodFile f ≡ true
   unfolding goodFile
@@ -76,23 +76,24 @@ unfolding goodFile
 good-length f g = (simp as-facts at g) .0
 
 -- one mark more
-pub last-snoc : (p : ℕ) (bs : List (List ℕ)) (b : List ℕ) → lastOf p (bs ++ (b ∷ [])) ≡ highNumber b
-unfolding lastOf
+pub last-snoc : (p : ℕ) (bs : List (List ℕ)) (b : List ℕ) → lastIn p (bs ++ (b ∷ [])) ≡ highNumber b
+unfolding lastIn
 last-snoc p [] b = refl
 last-snoc p (c ∷ bs) b = last-snoc (highNumber c) bs b
 
-pub all-snoc : (p : ℕ) (bs : List (List ℕ)) (b : List ℕ) → allHigh p bs ≡ true → isHigh (lastOf p bs) b ≡ true
+pub all-high-snoc : (p : ℕ) (bs : List (List ℕ)) (b : List ℕ) → allHigh p bs ≡ true → isHigh (lastIn p bs) b ≡ true
     → allHigh p (bs ++ (b ∷ [])) ≡ true
-unfolding lastOf allHigh
-all-snoc p [] b a h = rw h
-all-snoc p (c ∷ bs) b a h = let x = simp as-facts at a in simp as-facts (x .0, all-snoc (highNumber c) bs b (x .1) h)
+unfolding lastIn allHigh
+all-high-snoc p [] b a h = rw h
+all-high-snoc p (c ∷ bs) b a h = let x = simp as-facts at a in
+    simp as-facts (x .0, all-high-snoc (highNumber c) bs b (x .1) h)
 
 -- what is written is such a mark
 pub high-number : (n : ℕ) → n ≤ limit → highNumber (highBytes n) ≡ n
 unfolding highBytes encodeHigh decodeHigh
 high-number n l = digits4 n (omega arith)
 
-pub high-is : (p n : ℕ) → n ≤ limit → follows p n ≡ true → isHigh p (highBytes n) ≡ true
+pub high-is : (p n : ℕ) → n ≤ limit → mayFollow p n ≡ true → isHigh p (highBytes n) ≡ true
 unfolding isHigh highBytes encodeHigh decodeHigh
 high-is p n l h = rw (high-number n l, eq-eqb n n refl) h
 
@@ -101,9 +102,9 @@ or-right true = refl
 or-right false = refl
 
 -- a record whose largest number is above the last mark: the mark before it may follow
-pub next-follows : (p x : ℕ) → p < x → x ≤ limit → (follows p (nextHigh x) ≡ true) × (x ≤ nextHigh x)
+pub next-follows : (p x : ℕ) → p < x → x ≤ limit → (mayFollow p (nextHigh x) ≡ true) × (x ≤ nextHigh x)
     × (nextHigh x ≤ limit)
-unfolding follows
+unfolding mayFollow
 next-follows p x l h = (go (decLt limit (x + gap)), omega arith, omega arith)
   where
     n : ℕ
@@ -122,7 +123,7 @@ next-follows p x l h = (go (decLt limit (x + gap)), omega arith, omega arith)
         (or-right (ltb (ifb (eqb p 0) 0 (p + gap)) limit))
 
 -- no mark is above L
-pub last-within : (p : ℕ) (bs : List (List ℕ)) → p ≤ limit → allHigh p bs ≡ true → lastOf p bs ≤ limit
-unfolding lastOf allHigh isHigh follows
+pub last-within : (p : ℕ) (bs : List (List ℕ)) → p ≤ limit → allHigh p bs ≡ true → lastIn p bs ≤ limit
+unfolding lastIn allHigh isHigh mayFollow
 last-within p [] l a = l
 last-within p (b ∷ bs) l a = let x = simp as-facts at a in last-within (highNumber b) bs (x .0 .1 .0) (x .1)

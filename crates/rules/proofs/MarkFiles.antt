@@ -6,7 +6,7 @@ use Prim.Native.Nat.{ℕ, zero, suc, _+_}
 use Rattle.laws.specs.Lists.{pieces}
 use Rattle.laws.proofs.Lists.{_then_}
 use Rattle.records.specs.Layout.{encodeHigh, decodeHigh}
-use Rattle.rules.specs.MarkFile.{follows, isHigh, allHigh, lastOf, lastHigh, goodFile, nextHigh, highBytes}
+use Rattle.rules.specs.MarkFile.{mayFollow, isHigh, allHigh, lastIn, lastHigh, goodFile, nextHigh, highBytes}
 
 -- three bytes of an unfinished mark
 abbrev torn : List ℕ
@@ -29,7 +29,7 @@ passing =
 pub passes :
     passing
     ≡ true ∷ true ∷ true ∷ true ∷ true ∷ true ∷ false ∷ false ∷ false ∷ false ∷ false ∷ false ∷ []
-unfolding passing pieces follows isHigh allHigh goodFile highBytes encodeHigh decodeHigh
+unfolding passing pieces mayFollow isHigh allHigh goodFile highBytes encodeHigh decodeHigh
 passes =
     refl then refl then refl then refl then refl then refl then refl then refl then refl then refl then refl then refl
     then refl
@@ -38,7 +38,7 @@ pub lasts :
     lastHigh [] ∷ lastHigh (highBytes 7) ∷ lastHigh (highBytes 1 ++ highBytes 1_000_002 ++ torn) ∷ lastHigh torn
     ∷ nextHigh 1 ∷ nextHigh 1_999_000_000 ∷ nextHigh 1_999_000_001 ∷ []
     ≡ 0 ∷ 7 ∷ 1_000_002 ∷ 0 ∷ 1_000_001 ∷ 2_000_000_000 ∷ 2_000_000_000 ∷ []
-unfolding pieces lastOf lastHigh highBytes encodeHigh decodeHigh
+unfolding pieces lastIn lastHigh highBytes encodeHigh decodeHigh
 lasts = refl then refl then refl then refl then refl then refl then refl then refl
 
 -- k marks as near as they may be, from n on, and L

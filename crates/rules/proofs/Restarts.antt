@@ -8,7 +8,7 @@ use Rattle.laws.specs.Lists.{pieces}
 use Rattle.laws.specs.Tab.{tab}
 use Rattle.laws.proofs.Lists.{_then_}
 use Rattle.records.specs.Layout.{encodeHigh, decodeHigh}
-use Rattle.rules.specs.MarkFile.{follows, isHigh, allHigh, lastOf, lastHigh, goodFile, highBytes}
+use Rattle.rules.specs.MarkFile.{mayFollow, isHigh, allHigh, lastIn, lastHigh, goodFile, highBytes}
 use Rattle.rules.specs.State.{slow}
 use Rattle.rules.specs.Rules.{Written, notice, proposal, view, restarted, fresh}
 use Rattle.rules.specs.Refusals.{Made, restartChecks, restartOf}
@@ -28,7 +28,7 @@ pub restarts :
     ∷ seenOf (restartOf 3 (highBytes 0)) ∷ seenOf (restartOf 16 (highBytes 0)) ∷ []
     ≡ (0 ∷ 3 ∷ 0 ∷ 0 ∷ 0 ∷ []) ∷ (0 ∷ 3 ∷ 1_000_001 ∷ 1_000_001 ∷ 1_000_001 ∷ []) ∷ (0 ∷ 3 ∷ 7 ∷ 7 ∷ 7 ∷ [])
     ∷ (18 ∷ 0 ∷ 0 ∷ 0 ∷ 0 ∷ []) ∷ (1 ∷ 0 ∷ 0 ∷ 0 ∷ 0 ∷ []) ∷ []
-unfolding restartOf restartChecks goodFile allHigh isHigh follows lastHigh lastOf pieces highBytes encodeHigh
+unfolding restartOf restartChecks goodFile allHigh isHigh mayFollow lastHigh lastIn pieces highBytes encodeHigh
     decodeHigh restarted fresh
 restarts = refl then refl then refl then refl then refl then refl
 
@@ -73,11 +73,11 @@ pub leaving :
     ∷ puts 9 66 ∷ leaves (begins 2) ∷ leaves (proposes 1)
     ∷ puts 10 72 ∷ puts 11 77 ∷ puts 12 0 ∷ puts 13 30 ∷ puts 14 132 ∷ puts 15 131 ∷ puts 16 0 ∷ puts 17 30
     ∷ puts 18 132 ∷ puts 19 131 ∷ leaves (shows 1_000_003) ∷ []
-unfolding actionsFrom putsAll highBytes encodeHigh lastHigh lastOf pieces largest tab
+unfolding actionsFrom putsAll highBytes encodeHigh lastHigh lastIn pieces largest tab
 leaving = refl
 
 pub after-leaving : fileAfter [] (actionsOf [] answer) ≡ highBytes 1_000_002 ++ highBytes 2_000_003
-unfolding actionsFrom putsAll highBytes encodeHigh decodeHigh fileAfter lastHigh lastOf pieces largest tab
+unfolding actionsFrom putsAll highBytes encodeHigh decodeHigh fileAfter lastHigh lastIn pieces largest tab
 after-leaving = refl
 
 -- where the bytes go, and a record that leaves as 99: at the last mark's own number there is no mark, above it one;
@@ -99,5 +99,5 @@ pub marked :
     ∷ (0 ∷ 1 ∷ 2 ∷ 3 ∷ 4 ∷ 5 ∷ 6 ∷ 7 ∷ 8 ∷ 9 ∷ 99 ∷ 10 ∷ 11 ∷ 12 ∷ 13 ∷ 14 ∷ 15 ∷ 16 ∷ 17 ∷ 18 ∷ 19 ∷ 99
     ∷ 20 ∷ 21 ∷ 22 ∷ 23 ∷ 24 ∷ 25 ∷ 26 ∷ 27 ∷ 28 ∷ 29 ∷ 99 ∷ [])
     ∷ (highBytes 7 ++ highBytes 1_000_008) ∷ highBytes 2_000_000_000 ∷ []
-unfolding actionsFrom putsAll highBytes encodeHigh decodeHigh fileAfter lastHigh lastOf pieces largest tab
+unfolding actionsFrom putsAll highBytes encodeHigh decodeHigh fileAfter lastHigh lastIn pieces largest tab
 marked = refl then refl then refl then refl then refl then refl then refl

@@ -30,28 +30,29 @@ wholes f = pieces highLength (wholeCount f) f
 
 -- number n may come after number p, 0 before the first: more than 1,000,000 above it, the first above 0, or L after a
 -- lower one; none past L
-unfoldable pub follows : ℕ → ℕ → Bool
-follows p n = within n && (ltb (ifb (eqb p 0) 0 (p + gap)) n || (eqb n limit && ltb p limit))
+unfoldable pub mayFollow : ℕ → ℕ → Bool
+mayFollow p n = within n && (ltb (ifb (eqb p 0) 0 (p + gap)) n || (eqb n limit && ltb p limit))
 
 -- the number of a record; it is such a mark where the one before it has number p
 abbrev pub highNumber : List ℕ → ℕ
 highNumber b = decodeHigh b .number
 
 unfoldable pub isHigh : ℕ → List ℕ → Bool
-isHigh p b = eqb (valueOf b) (valueOf highMark) && eqb (highNumber b) (decodeHigh b .again) && follows p (highNumber b)
+isHigh p b = eqb (valueOf b) (valueOf highMark) && eqb (highNumber b) (decodeHigh b .again)
+    && mayFollow p (highNumber b)
 
 unfoldable pub allHigh : ℕ → List (List ℕ) → Bool
 allHigh p [] = true
 allHigh p (b ∷ bs) = isHigh p b && allHigh (highNumber b) bs
 
 -- the number of the last, p where there is none
-unfoldable pub lastOf : ℕ → List (List ℕ) → ℕ
-lastOf p [] = p
-lastOf p (b ∷ bs) = lastOf (highNumber b) bs
+unfoldable pub lastIn : ℕ → List (List ℕ) → ℕ
+lastIn p [] = p
+lastIn p (b ∷ bs) = lastIn (highNumber b) bs
 
 -- the last whole mark of a file, 0 where there is none
 unfoldable pub lastHigh : List ℕ → ℕ
-lastHigh f = lastOf 0 (wholes f)
+lastHigh f = lastIn 0 (wholes f)
 
 -- 18 does not apply: the file is not too long, and each whole record is such a mark
 unfoldable pub goodFile : List ℕ → Bool

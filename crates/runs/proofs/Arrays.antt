@@ -196,17 +196,17 @@ pub data Climbs : ℕ → List Written → Type 0 where
       → Climbs n (proposal p ∷ ws)
 
 -- what a proposal among them tells is what the office has used
-pub data Tells (f : ℕ → ℕ) : List Written → Type 0 where
-  tells-none : Tells f []
-  tells-notice : {x : Notice} {ws : List Written} → Tells f ws → Tells f (notice x ∷ ws)
-  tells-view : {x : View} {ws : List Written} → Tells f ws → Tells f (view x ∷ ws)
-  tells-proposal : {p : Proposal} {ws : List Written} → ((o : ℕ) → o < 16 → usedFor p o ≤ f o) → Tells f ws
-      → Tells f (proposal p ∷ ws)
+pub data TellsUsed (f : ℕ → ℕ) : List Written → Type 0 where
+  tells-none : TellsUsed f []
+  tells-notice : {x : Notice} {ws : List Written} → TellsUsed f ws → TellsUsed f (notice x ∷ ws)
+  tells-view : {x : View} {ws : List Written} → TellsUsed f ws → TellsUsed f (view x ∷ ws)
+  tells-proposal : {p : Proposal} {ws : List Written} → ((o : ℕ) → o < 16 → usedFor p o ≤ f o) → TellsUsed f ws
+      → TellsUsed f (proposal p ∷ ws)
 
 -- office me is cut off when the records ws have left, and begins again at m, which is not below any number that left
 pub record Restarts (g : Offices) (me m : ℕ) (ws : List Written) : Type 0 where
   pub climbs : Climbs (g .num me) ws
-  pub tells : Tells (g .used me) ws
+  pub tells : TellsUsed (g .used me) ws
   pub above : topAfter ws (g .top me) ≤ m
 
 -- slow agreement is called for

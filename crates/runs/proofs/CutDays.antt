@@ -10,7 +10,7 @@ use Rattle.laws.specs.Lists.{runs, pieces, more}
 use Rattle.laws.proofs.Lists.{_then_}
 use Rattle.records.specs.Layout.{encodeHigh, decodeHigh}
 use Rattle.records.specs.declared.Report.{Report}
-use Rattle.rules.specs.MarkFile.{lastOf, lastHigh, allHigh, isHigh, follows, goodFile, highBytes}
+use Rattle.rules.specs.MarkFile.{lastIn, lastHigh, allHigh, isHigh, mayFollow, goodFile, highBytes}
 use Rattle.rules.specs.Rules.{fresh}
 use Rattle.rules.specs.Leaving.{putsAll, actionsFrom, fileAfter, leftIn}
 use Rattle.rules.specs.Refusals.{fullRoom, aReport, restartChecks, restartOf}
@@ -70,7 +70,7 @@ pub with-file :
     (cuts 0 begun 9 ∷ cuts 0 begun 10 ∷ cuts 0 begun 11 ∷ cuts 0 begun 12 ∷ [])
     ≡ cut 0 begun 0 0 ∷ cut 0 begun 0 1_000_001 ∷ cut 0 begun 1 2_000_002 ∷ cut 0 begun 2 3_000_003 ∷ []
 unfolding given atFirst answered withLink reportAnswer proposalAnswer begunWrites takenUp cutAnswer next plainly
-    nextFiled doneAt actionsFrom putsAll fileAfter leftIn highBytes encodeHigh decodeHigh pieces lastOf lastHigh
+    nextFiled doneAt actionsFrom putsAll fileAfter leftIn highBytes encodeHigh decodeHigh pieces lastIn lastHigh
 with-file = refl
 
 -- the same of one office, which acts to the end at last: the start numbers and proposal numbers that left, the file
@@ -86,7 +86,7 @@ pub left-kept :
     ≡ (1 ∷ 1_000_002 ∷ 2_000_003 ∷ []) ∷ (1_000_002 ∷ 2_000_003 ∷ [])
     ∷ (highBytes 1_000_001 ++ highBytes 2_000_002 ++ highBytes 3_000_003) ∷ []
 unfolding given answerTo done restartAfter restartOf restartChecks nextKept leftKept picked runs actionsFrom putsAll
-    fileAfter leftIn goodFile allHigh isHigh follows highBytes encodeHigh decodeHigh pieces lastOf lastHigh
+    fileAfter leftIn goodFile allHigh isHigh mayFollow highBytes encodeHigh decodeHigh pieces lastIn lastHigh
 left-kept = refl then refl then refl then refl
 
 -- below a number that left, and above L, no office begins again

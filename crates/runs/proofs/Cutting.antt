@@ -26,7 +26,7 @@ use Rattle.runs.specs.World.{without, answered, withLink, frontWrites, b
 use Rattle.runs.specs.World.{reportAnswer, proposalAnswer, Among}
 use Rattle.runs.specs.Begins.{InF}
 use Rattle.runs.proofs.Arrays.{Offices, relink, restart, topAfter, Climbs, climbs-none, climbs-notice}
-use Rattle.runs.proofs.Arrays.{climbs-view, climbs-proposal, Tells, tells-none, tells-notice, tells-view}
+use Rattle.runs.proofs.Arrays.{climbs-view, climbs-proposal, TellsUsed, tells-none, tells-notice, tells-view}
 use Rattle.runs.proofs.Arrays.{tells-proposal, Restarts, FromF, Numbers, takes-nothing, takes-front, Happens}
 use Rattle.runs.proofs.Arrays.{restarts-apart, restarts}
 use Rattle.runs.proofs.Links.{every-without}
@@ -57,7 +57,7 @@ climbs-take (suc k) (climbs-proposal h c) = climbs-proposal h (climbs-take k c)
 abbrev TellsOf : (ℕ → ℕ) → Proposal → Type 0
 TellsOf f p = (o : ℕ) → o < 16 → usedFor p o ≤ f o
 
-each-tells : {f : ℕ → ℕ} (ws : List Written) → EachProposal (TellsOf f) ws → Tells f ws
+each-tells : {f : ℕ → ℕ} (ws : List Written) → EachProposal (TellsOf f) ws → TellsUsed f ws
 each-tells [] none = tells-none
 each-tells (notice n ∷ ws) (more a-notice e) = tells-notice (each-tells ws e)
 each-tells (view v ∷ ws) (more a-view e) = tells-view (each-tells ws e)
@@ -174,19 +174,19 @@ module _ (F : ℕ → Bool) where
     sim : Sim mine g me
     sim = seen .sim me q (below-sixteen F (q .0))
 
-    record Begun (ws : List Written) : Type 0 where
+    record BegunAnswer (ws : List Written) : Type 0 where
       climbs : Climbs (mine .number) ws
       tells : EachProposal (TellsOf (usedAt mine)) ws
       sends : Sends F me ws
 
-    nothing : Begun []
+    nothing : BegunAnswer []
     nothing = record {
       climbs = climbs-none;
       tells = none;
       sends = record { valid = none; below = none; names = none };
     }
 
-    begun : (b : Underway) → Among (cut me b left m) → Begun (begunWrites w me b)
+    begun : (b : Underway) → Among (cut me b left m) → BegunAnswer (begunWrites w me b)
     unfolding begunWrites
     begun nothing-begun a = nothing
     begun (begun-report r room) a = record {
@@ -196,7 +196,7 @@ module _ (F : ℕ → Bool) where
     }
     begun (begun-delivery i room) a = go (w .link i me) refl
       where
-        go : (l : List Item) → w .link i me ≡ l → Begun (frontWrites w me room l)
+        go : (l : List Item) → w .link i me ≡ l → BegunAnswer (frontWrites w me room l)
         go [] e = nothing
         go (x ∷ l) e = record {
           climbs = unfold proposalAnswer in ascending-climbs (take-rises mine (aProposal (x .proposal)) room .numbers);

@@ -7,18 +7,15 @@ use Prim.Native.Nat.{ℕ, zero, suc, _≤_}
 use native.Mathlib.Omega.{arith}
 use native.Mathlib.Decide.{ℕ-discrete}
 use lib.ListN.{length, take}
-use lib.Seq.{take-all}
 use Rattle.laws.specs.Lists.{runs, Every, none, more}
-use Rattle.laws.proofs.Lists.{every-map}
 use Rattle.laws.specs.Upd.{upd}
 use Rattle.laws.proofs.Upd.{upd-same, upd-other}
 use Rattle.records.specs.Numbers.{limit}
 use Rattle.rules.specs.Refusals.{aReport, aProposal}
-use Rattle.rules.specs.MarkFile.{lastHigh, wholeEnd}
 use Rattle.rules.specs.State.{State}
 use Rattle.rules.specs.Rules.{Written}
 use Rattle.rules.specs.Leaving.{largestIn, actionsFrom, actionsOf, fileAfter, leftIn}
-use Rattle.rule_laws.proofs.Leaving.{leaves-after, left-all, take-largest, no-marks, Covering, covering-above}
+use Rattle.rule_laws.proofs.Leaving.{take-largest, no-marks, Covering, covering-above, part-covers, all-covers}
 use Rattle.runs.specs.World.{Item, World, SentRecord, atFirst, logged, Underway, nothing-begun, begun-report}
 use Rattle.runs.specs.World.{begun-delivery, WorldEvent, answered, withLink, idle, delivered, frontWrites}
 use Rattle.runs.specs.World.{begunWrites, takenUp, cutAnswer, reportAnswer, proposalAnswer, next, at, Nth}
@@ -36,30 +33,18 @@ pub logged-in : (P : Written → Type 0) (t : ℕ) (ws : List Written) (l : List
 logged-in P t [] l none e = e
 logged-in P t (r ∷ ws) l (more h hs) e = logged-in P t ws _ hs (more h e)
 
+-- after some of the actions of an answer, and after all of them
 module _ (f : List ℕ) (log : List SentRecord) (ws : List Written) (t : ℕ) (k : LogCovered f log)
     (low : Every (λ w. largestIn w ≤ limit) ws) where
-  -- after some of the actions
-  pub part-covered : (n : ℕ) → let done = take n (actionsOf f ws) in
-      LogCovered (fileAfter f done) (logged t (take (length (leftIn done)) ws) log)
-  part-covered n =
-      let x = leaves-after f ws (k .order) low n in
-      let r = x .rises in
-      let g = fileAfter f (take n (actionsOf f ws)) in
-      record {
-        order = x .order;
-        covered = logged-in (λ w. largestIn w ≤ lastHigh g) t _ log
-            (subst (Every (λ w. largestIn w ≤ lastHigh g)) (x .front) (x .covered))
-            (every-map (λ y e. omega arith) (k .covered));
-      }
+  abbrev with-log : List Written → List SentRecord
+  with-log us = logged t us log
 
-  -- and after all of them
-  pub all-covered : LogCovered (fileAfter f (actionsOf f ws)) (logged t ws log)
-  all-covered =
-      let n = length (actionsOf f ws) in
-      let e : take n (actionsOf f ws) ≡ actionsOf f ws = take-all n (actionsOf f ws) (omega arith) in
-      let l : leftIn (actionsOf f ws) ≡ ws = left-all (lastHigh f) (wholeEnd f) ws in
-      let a : take (length ws) ws ≡ ws = take-all (length ws) ws (omega arith) in
-      rw (e, l, a) at (part-covered n)
+  pub part-covered : (n : ℕ) → let done = take n (actionsOf f ws) in
+      LogCovered (fileAfter f done) (with-log (take (length (leftIn done)) ws))
+  part-covered n = part-covers (λ x. x .what) log with-log (λ P us. logged-in P t us log) f ws k low n .1
+
+  pub all-covered : LogCovered (fileAfter f (actionsOf f ws)) (with-log ws)
+  all-covered = all-covers (λ x. x .what) log with-log (λ P us. logged-in P t us log) f ws k low .1
 
 begun-low : (w : World) (o : ℕ) (b : Underway) → Every (λ w. largestIn w ≤ limit) (begunWrites w o b)
 unfolding begunWrites

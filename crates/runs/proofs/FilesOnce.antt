@@ -8,6 +8,7 @@ use native.Mathlib.Omega.{arith}
 use lib.ListN.{length, take}
 use borrow.Author.Tests.{le-ltb}
 use Rattle.laws.specs.Lists.{runs, Every, none, more}
+use Rattle.laws.proofs.Lists.{every-append}
 use Rattle.records.specs.Numbers.{limit}
 use Rattle.rules.specs.MarkFile.{fileLimit, lastHigh, goodFile}
 use Rattle.rule_laws.proofs.MarkFile.{good-length}
@@ -20,7 +21,8 @@ use Rattle.rule_laws.proofs.Leaving.{take-largest, no-marks, order-passes, Cove
 use Rattle.rule_laws.proofs.Leaving.{all-covers}
 use Rattle.runs.specs.Office.{Input, answerTo, handedAt, nextTurn, leftAt, leftOver, TurnAbove, TurnsAbove}
 use Rattle.runs.specs.Office.{no-turn, a-turn, NumbersOnce}
-use Rattle.runs.specs.Files.{Kept, FileTurn, acts, cutAfter, done, restartAfter, nextKept, freshKept, keptAfter}
+use Rattle.runs.specs.Files.{KeptOffice, FileTurn, acts, cutAfter, done, restartAfter, nextKept, freshKept}
+use Rattle.runs.specs.Files.{keptAfter}
 use Rattle.runs.specs.Files.{leftKept, beginsWith, turnOf, turnsOf}
 use Rattle.runs.proofs.OfficeViews.{answer-ends}
 use Rattle.runs.proofs.OfficeGiven.{numbers-once}
@@ -32,7 +34,7 @@ unfolding restartOf restartChecks
 good-restart own f lt g = rw (le-ltb 15 own (omega arith), g)
 
 -- what is handed at its turns
-pub kept-handed : (I : Input → Type 0) (k : Kept) (ts : List FileTurn) → Every (λ t. I (beginsWith t)) ts
+pub kept-handed : (I : Input → Type 0) (k : KeptOffice) (ts : List FileTurn) → Every (λ t. I (beginsWith t)) ts
     → Every (λ t. I (handedAt t)) (turnsOf k ts)
 unfolding turnsOf
 kept-handed I k [] none = none
@@ -41,17 +43,20 @@ kept-handed I k (cutAfter h n ∷ ts) (more i is) = more i (kept-handed I (nextK
 
 module _ (own : ℕ) (lt : own < 16) where
   -- an office and its file, which covers all that has left
-  pub record WellKept (k : Kept) (l : List Written) : Type 0 where
+  pub record WellKept (k : KeptOffice) (l : List Written) : Type 0 where
     pub is-own : k .state .own ≡ own
     pub covers : Covering (λ w. w) (k .file) l
 
-  module _ (k : Kept) (l : List Written) (s : WellKept k l) where
+  module _ (k : KeptOffice) (l : List Written) (s : WellKept k l) where
     pub kept-passes : goodFile (k .file) ≡ true
     kept-passes = order-passes (k .file) (s .covers .order)
 
     low : (h : Input) → Every (λ w. largestIn w ≤ limit) (answerTo (k .state) h .written)
     unfolding answerTo
     low h = take-largest (k .state) (h .event) (h .room)
+
+    joined : (P : Written → Type 0) (us : List Written) → Every P us → Every P l → Every P (l ++ us)
+    joined P us e d = every-append d e
 
     -- after a turn: what left, the file, and the state
     record After (t : FileTurn) : Type 0 where
@@ -63,7 +68,8 @@ module _ (own : ℕ) (lt : own < 16) where
     after : (t : FileTurn) → After t
     unfolding nextKept done restartAfter
     after (acts h) =
-        let x = all-covers (k .file) l (answerTo (k .state) h .written) (s .covers) (low h) in
+        let x = all-covers (λ w. w) l (λ us. l ++ us) joined (k .file) (answerTo (k .state) h .written) (s .covers)
+        (low h) in
         record {
           left = x .0;
           state = refl;
@@ -71,7 +77,8 @@ module _ (own : ℕ) (lt : own < 16) where
           above = tt;
         }
     after (cutAfter h n) =
-        let x = part-covers (k .file) l (answerTo (k .state) h .written) (s .covers) (low h) n in
+        let x = part-covers (λ w. w) l (λ us. l ++ us) joined (k .file) (answerTo (k .state) h .written) (s .covers)
+        (low h) n in
         let f = fileAfter (k .file) (take n (actionsOf (k .file) (answerTo (k .state) h .written))) in
         let small : k .state .own < 16 = rw (s .is-own) lt in
         let st : restartOf (k .state .own) f .state ≡ restarted (k .state .own) (lastHigh f)
@@ -93,7 +100,7 @@ module _ (own : ℕ) (lt : own < 16) where
   fresh-kept = record { is-own = fresh-reads own .own-is; covers = record { order = no-marks; covered = none } }
 
   -- the run is one of turns that begin again at or above all that left
-  runs-above : (k : Kept) (l : List Written) (ts : List FileTurn) → WellKept k l
+  runs-above : (k : KeptOffice) (l : List Written) (ts : List FileTurn) → WellKept k l
       → (leftKept k ts ≡ leftOver (k .state) (turnsOf k ts)) × TurnsAbove (k .state) l (turnsOf k ts)
   unfolding leftKept leftOver turnsOf
   runs-above k l [] s = (refl, no-turn)
@@ -104,7 +111,7 @@ module _ (own : ℕ) (lt : own < 16) where
       × TurnsAbove u (l ++ leftAt (k .state) (turnOf k t)) (turnsOf (nextKept k t) ts)) (a .state) x in
       (rw (a .left, y .0), a-turn (a .above) (y .1))
 
-  keeps-after : (k : Kept) (l : List Written) (ts : List FileTurn) → WellKept k l
+  keeps-after : (k : KeptOffice) (l : List Written) (ts : List FileTurn) → WellKept k l
       → (m : List Written) × WellKept (keptAfter k ts) m
   unfolding runs
   keeps-after k l [] s = (l, s)
@@ -128,5 +135,5 @@ module _ (own : ℕ) (lt : own < 16) where
     own-file = good-restart own _ lt own-passes
 
     -- it never passes 20,010 bytes
-    pub own-length : length (keptAfter (freshKept own) ts .file) ≤ fileLimit
-    own-length = good-length _ own-passes
+    pub own-file-length : length (keptAfter (freshKept own) ts .file) ≤ fileLimit
+    own-file-length = good-length _ own-passes

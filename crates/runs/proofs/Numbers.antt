@@ -20,7 +20,7 @@ use Rattle.runs.specs.Begins.{InF, Rising}
 use Rattle.laws.proofs.Grid.{upd2-cases, upd2-same, upd2-other}
 use Rattle.runs.proofs.Arrays.{Offices, mailTo, renet, propose, receive, conclude, relink, other, Proposes}
 use Rattle.runs.proofs.Arrays.{Agreed, Arrives, FromF, Numbers, restart, topAfter, Restarts}
-use Rattle.runs.proofs.Arrays.{Climbs, climbs-none, climbs-notice, climbs-view, climbs-proposal, Tells}
+use Rattle.runs.proofs.Arrays.{Climbs, climbs-none, climbs-notice, climbs-view, climbs-proposal, TellsUsed}
 use Rattle.runs.proofs.Arrays.{tells-none, tells-notice, tells-view, tells-proposal, takes-nothing, takes-front}
 use Rattle.runs.proofs.Arrays.{SlowTest, not-called, called, not-agreed, agreed, Tests, both}
 use Rattle.runs.proofs.Arrays.{Happens, idles, refuses, repeated, loses, drops, leaves, reports, stores}
@@ -145,7 +145,7 @@ climbs-row {lo} {hi} {n} {row = row} t b l (climbs-proposal {p = p} {ws = ws} lt
         (f (row ++ (itemOf t p ∷ [])) (rising-snoc (itemOf t p) (omega arith) r))
     go false f = f row (rising-high (p .number) (omega arith) r)
 
-pub told-mail : {f : ℕ → ℕ} {ws : List Written} (t b x : ℕ) → b < 16 → f b ≤ x → Tells f ws
+pub told-mail : {f : ℕ → ℕ} {ws : List Written} (t b x : ℕ) → b < 16 → f b ≤ x → TellsUsed f ws
     → Every (λ y. usedFor (y .proposal) b ≤ x) (mail t b ws)
 told-mail t b x lt l tells-none = none
 told-mail t b x lt l (tells-notice c) = told-mail t b x lt l c

@@ -39,24 +39,25 @@ pub record Given : Type 0 where
   pub viewed : ℕ
 
 -- each number is above the last one of its kind
-pub data Gives : Given → List Written → Given → Type 0 where
-  gives-none : {g : Given} → Gives g [] g
+pub data GivesOut : Given → List Written → Given → Type 0 where
+  gives-none : {g : Given} → GivesOut g [] g
   gives-notice : {g h : Given} {n : Notice} {ws : List Written} → g .begun < n .start
-      → Gives (record { proposed = g .proposed; begun = n .start; viewed = g .viewed }) ws h
-      → Gives g (notice n ∷ ws) h
+      → GivesOut (record { proposed = g .proposed; begun = n .start; viewed = g .viewed }) ws h
+      → GivesOut g (notice n ∷ ws) h
   gives-proposal : {g h : Given} {p : Proposal} {ws : List Written} → g .proposed < p .number
-      → Gives (record { proposed = p .number; begun = g .begun; viewed = g .viewed }) ws h
-      → Gives g (proposal p ∷ ws) h
+      → GivesOut (record { proposed = p .number; begun = g .begun; viewed = g .viewed }) ws h
+      → GivesOut g (proposal p ∷ ws) h
   gives-view : {g h : Given} {v : View} {ws : List Written} → g .viewed < v .number
-      → Gives (record { proposed = g .proposed; begun = g .begun; viewed = v .number }) ws h → Gives g (view v ∷ ws) h
+      → GivesOut (record { proposed = g .proposed; begun = g .begun; viewed = v .number }) ws h
+      → GivesOut g (view v ∷ ws) h
 
-gives-then : {g h k : Given} {a b : List Written} → Gives g a h → Gives h b k → Gives g (a ++ b) k
+gives-then : {g h k : Given} {a b : List Written} → GivesOut g a h → GivesOut h b k → GivesOut g (a ++ b) k
 gives-then gives-none y = y
 gives-then (gives-notice l x) y = gives-notice l (gives-then x y)
 gives-then (gives-proposal l x) y = gives-proposal l (gives-then x y)
 gives-then (gives-view l x) y = gives-view l (gives-then x y)
 
-gives-take : (k : ℕ) {g h : Given} {ws : List Written} → Gives g ws h → (e : Given) × Gives g (take k ws) e
+gives-take : (k : ℕ) {g h : Given} {ws : List Written} → GivesOut g ws h → (e : Given) × GivesOut g (take k ws) e
 gives-take zero {g} x = (g, gives-none)
 gives-take (suc k) {g} gives-none = (g, gives-none)
 gives-take (suc k) (gives-notice l x) = let y = gives-take k x in (y .0, gives-notice l (y .1))
@@ -68,7 +69,7 @@ pub record UpTo (g : Given) (m : ℕ) : Type 0 where
   pub begun : g .begun ≤ m
   pub viewed : g .viewed ≤ m
 
-gives-up-to : {g h : Given} {ws : List Written} (m : ℕ) → Gives g ws h → UpTo g m → AllUpTo m ws → UpTo h m
+gives-up-to : {g h : Given} {ws : List Written} (m : ℕ) → GivesOut g ws h → UpTo g m → AllUpTo m ws → UpTo h m
 gives-up-to m gives-none u e = u
 gives-up-to m (gives-notice l x) u e =
     gives-up-to m x (record { proposed = u .proposed; begun = every-head e; viewed = u .viewed }) (every-tail e)
@@ -96,9 +97,9 @@ record Opened (g : Given) (s : State) : Type 0 where
   reached : s .view .number ≤ s .start
 
 abbrev Stand : Given → Outcome → Type 0
-Stand g o = Beside Gives Stands g (o .written) (o .state)
+Stand g o = Beside GivesOut Stands g (o .written) (o .state)
 
-opens-stand : (g : Given) (s : State) → Behind g s → Beside Gives Opened g (opens s .written) (opened s)
+opens-stand : (g : Given) (s : State) → Behind g s → Beside GivesOut Opened g (opens s .written) (opened s)
 unfolding opens opened noticeOf
 opens-stand g s b =
     let x = b .start in
@@ -152,7 +153,7 @@ fast-stands g s h = go (hasRecipient p) refl
     p = ownProposal Fast (nextNumber s) s
 
     go : (u : Bool) → hasRecipient p ≡ u
-        → Beside Gives Stands g (ifb u (proposal p ∷ []) []) (proposed Fast (nextNumber s) s)
+        → Beside GivesOut Stands g (ifb u (proposal p ∷ []) []) (proposed Fast (nextNumber s) s)
     go true q =
         let l = next-above s in
         let b = h .behind .number in
@@ -315,12 +316,12 @@ event-stands g s (aProposal p) z f = proposal-stands g s p (check-facts s p z) f
 
 -- any answer
 answer-stands : (g : Given) (s : State) (h : Input) → Stands g s
-    → Beside Gives Stands g (answerTo s h .written) (nextState s h)
+    → Beside GivesOut Stands g (answerTo s h .written) (nextState s h)
 unfolding answerTo
 answer-stands g s h f = go (take-cases s (h .event) (h .room))
   where
     Is : Result → Type 0
-    Is r = Beside Gives Stands g (r .written) (r .state)
+    Is r = Beside GivesOut Stands g (r .written) (r .state)
 
     go : Refused s (takeOf s (h .event) (h .room)) ⊎ Takes s (h .event) (h .room) → Is (takeOf s (h .event) (h .room))
     go (inl r) = rw (r .is) (record { then = g; told = gives-none; holds = f })
@@ -346,21 +347,21 @@ abbrev nothing-given : Given
 nothing-given = record { proposed = 0; begun = 0; viewed = 0 }
 
 -- what rises, kind by kind
-proposals-ascend : {g h : Given} {ws : List Written} → Gives g ws h → Ascends (g .proposed) (picked ofProposal ws)
+proposals-ascend : {g h : Given} {ws : List Written} → GivesOut g ws h → Ascends (g .proposed) (picked ofProposal ws)
 unfolding picked
 proposals-ascend gives-none = no-number
 proposals-ascend (gives-notice l x) = proposals-ascend x
 proposals-ascend (gives-proposal l x) = a-number l (proposals-ascend x)
 proposals-ascend (gives-view l x) = proposals-ascend x
 
-notices-ascend : {g h : Given} {ws : List Written} → Gives g ws h → Ascends (g .begun) (picked ofNotice ws)
+notices-ascend : {g h : Given} {ws : List Written} → GivesOut g ws h → Ascends (g .begun) (picked ofNotice ws)
 unfolding picked
 notices-ascend gives-none = no-number
 notices-ascend (gives-notice l x) = a-number l (notices-ascend x)
 notices-ascend (gives-proposal l x) = notices-ascend x
 notices-ascend (gives-view l x) = notices-ascend x
 
-views-ascend : {g h : Given} {ws : List Written} → Gives g ws h → Ascends (g .viewed) (picked ofView ws)
+views-ascend : {g h : Given} {ws : List Written} → GivesOut g ws h → Ascends (g .viewed) (picked ofView ws)
 unfolding picked
 views-ascend gives-none = no-number
 views-ascend (gives-notice l x) = views-ascend x
@@ -379,7 +380,7 @@ any-turns (t ∷ ts) = more tt (any-turns ts)
 pub numbers-once : (own : ℕ) → own < 16 → (ts : List Turn) → TurnsAbove (fresh own) [] ts
     → NumbersOnce (leftOver (fresh own) ts)
 numbers-once own lt ts a =
-    let x = beside-turns Gives Stands UpTo (λ c. gives-none) (λ c d e a b. gives-then) (λ c d ws k. gives-take k)
+    let x = beside-turns GivesOut Stands UpTo (λ c. gives-none) (λ c d e a b. gives-then) (λ c d ws k. gives-take k)
     (λ c d ws m. gives-up-to m)
     (λ c d s ws m p t u l. restart-stands d (s .own) m (p .behind .office) u) Any (λ c s h i. answer-stands c s h)
     nothing-given (fresh own) [] ts (any-turns ts)

@@ -18,7 +18,7 @@ use Rattle.runs.specs.World.{Item, World, atFirst, Underway, begun-repor
 use Rattle.runs.specs.World.{delivery, loss, cut, begunWrites, next}
 
 -- one office and its file
-pub record Kept : Type 0 where
+pub record KeptOffice : Type 0 where
   pub state : State
   pub file : List ℕ
 
@@ -28,30 +28,30 @@ pub data FileTurn : Type 0 where
   acts : Input → FileTurn
   cutAfter : (begun : Input) (done : ℕ) → FileTurn
 
-unfoldable pub done : Kept → FileTurn → List Action
+unfoldable pub done : KeptOffice → FileTurn → List Action
 done k (acts h) = actionsOf (k .file) (answerTo (k .state) h .written)
 done k (cutAfter h n) = take n (actionsOf (k .file) (answerTo (k .state) h .written))
 
 -- what the restart makes of the file that is left
-unfoldable pub restartAfter : Kept → FileTurn → Made
+unfoldable pub restartAfter : KeptOffice → FileTurn → Made
 restartAfter k t = restartOf (k .state .own) (fileAfter (k .file) (done k t))
 
-abbrev pub stateAt : Kept → FileTurn → State
+abbrev pub stateAt : KeptOffice → FileTurn → State
 stateAt k (acts h) = answerTo (k .state) h .state
 stateAt k (cutAfter h n) = restartAfter k (cutAfter h n) .state
 
-unfoldable pub nextKept : Kept → FileTurn → Kept
+unfoldable pub nextKept : KeptOffice → FileTurn → KeptOffice
 nextKept k t = record { state = stateAt k t; file = fileAfter (k .file) (done k t) }
 
 -- a fresh office and an empty file
-abbrev pub freshKept : ℕ → Kept
+abbrev pub freshKept : ℕ → KeptOffice
 freshKept own = record { state = fresh own; file = [] }
 
-abbrev pub keptAfter : Kept → List FileTurn → Kept
+abbrev pub keptAfter : KeptOffice → List FileTurn → KeptOffice
 keptAfter = runs nextKept
 
 -- the records that leave in a run, in order
-unfoldable pub leftKept : Kept → List FileTurn → List Written
+unfoldable pub leftKept : KeptOffice → List FileTurn → List Written
 leftKept k [] = []
 leftKept k (t ∷ ts) = leftIn (done k t) ++ leftKept (nextKept k t) ts
 
@@ -62,12 +62,12 @@ beginsWith (cutAfter h n) = h
 
 -- the turn of Office.antt that it is: a cut names the records that had left and the number at which the office begins
 -- again
-abbrev pub turnOf : Kept → FileTurn → Turn
+abbrev pub turnOf : KeptOffice → FileTurn → Turn
 turnOf k (acts h) = entire h
 turnOf k (cutAfter h n) =
     broken h (length (leftIn (done k (cutAfter h n)))) (lastHigh (fileAfter (k .file) (done k (cutAfter h n))))
 
-unfoldable pub turnsOf : Kept → List FileTurn → List Turn
+unfoldable pub turnsOf : KeptOffice → List FileTurn → List Turn
 turnsOf k [] = []
 turnsOf k (t ∷ ts) = turnOf k t ∷ turnsOf (nextKept k t) ts
 

@@ -18,7 +18,7 @@ use Rattle.rules.specs.State.{None, State, zeros, nothing}
 use Rattle.rules.specs.Rules.{fresh}
 use Rattle.rules.specs.Refusals.{wellFormed, fullRoom}
 use Rattle.rules.specs.Days.{given}
-use Rattle.rules.specs.MarkFile.{lastOf, lastHigh, highBytes}
+use Rattle.rules.specs.MarkFile.{lastIn, lastHigh, highBytes}
 use Rattle.rules.specs.Leaving.{putsAll, actionsFrom, fileAfter, leftIn}
 use Rattle.runs.specs.World.{netOne, netBy, Item, SentView, viewsIn, World, atFirst, Underway, nothing-begun}
 use Rattle.runs.specs.World.{begun-report, begun-delivery, WorldEvent, report, delivery, loss, cut, answered, withLink}
@@ -353,7 +353,7 @@ hands i j = delivers i j fullRoom
 -- the events that such a list is, the files empty at first; who unfolds this unfolds what an office does to its file
 unfoldable pub withFiles : List FileEvent → List WorldEvent
 unfolding summary plainly nextFiled doneAt actionsFrom putsAll fileAfter leftIn highBytes encodeHigh decodeHigh pieces
-    lastOf lastHigh
+    lastIn lastHigh
 withFiles fs = plainly (filedFirst (stateIn []) (linkIn []) (λ i. [])) fs
 
 -- an office in mode none with nothing stored and no view yet

@@ -2,7 +2,7 @@ use native.Mathlib.Omega.{arith}
 use lib.ListN.{length}
 use borrow.Author.Tests.{le-leb, lt-leb}
 use Rattle.rules.specs.MarkFile.{fileLimit, goodFile}
-use Rattle.restart.specs.Marks.{passOf, marksOf}
+use Rattle.restart.specs.Marks.{marksIn, marksOf}
 use borrow.Author.Needs.{needs}
 use Rattle.restart.proofs.marks.last_mark.Statement.{statement}
 use Rattle.restart.proofs.marks.last_mark.Tie as tie
@@ -15,7 +15,7 @@ pass-requires : tie.Need-pass-requires
 pass-requires c κs = search needs
 
 returns-2 : tie.Need-returns-2
-unfolding passOf marksOf goodFile
+unfolding marksIn marksOf goodFile
 returns-2 c =
     rw (c .pass .ensures, le-leb (length (c .before .before .before .args .file .now)) fileLimit (omega arith))
 

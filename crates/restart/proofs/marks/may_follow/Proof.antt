@@ -1,4 +1,4 @@
-use Rattle.rules.specs.MarkFile.{follows}
+use Rattle.rules.specs.MarkFile.{mayFollow}
 use borrow.Author.Needs.{needs}
 use Rattle.restart.proofs.marks.may_follow.Statement.{statement}
 use Rattle.restart.proofs.marks.may_follow.Tie as tie
@@ -7,7 +7,7 @@ least-requires : tie.Need-least-requires
 least-requires c κs = search needs
 
 returns : tie.Need-returns
-unfolding follows
+unfolding mayFollow
 returns c = rw (c .least .ensures)
 
 pub may-follow-spec : {M : Type 1} → statement M
