@@ -98,10 +98,12 @@ notAbove s p = leb (p .number) (acceptedAt s (p .sender))
 unfoldable pub usedAhead : State → Proposal → Bool
 usedAhead s p = ltb (s .number) (usedFor p (s .own))
 
+abbrev pub stateChecks : State → Proposal → List Check
+stateChecks s p =
+    record { number = 11; applies = notAbove s p } ∷ record { number = 12; applies = usedAhead s p } ∷ []
+
 unfoldable pub proposalChecks : State → Proposal → List Check
-proposalChecks s p =
-    formChecks (s .own) p
-    ++ (record { number = 11; applies = notAbove s p } ∷ record { number = 12; applies = usedAhead s p } ∷ [])
+proposalChecks s p = formChecks (s .own) p ++ stateChecks s p
 
 abbrev pub refusalOf : State → Event → ℕ
 refusalOf s (aReport r) = 0
