@@ -37,11 +37,11 @@ use Rattle.waiting.specs.declared.Waiting.the-variants as waits
 use Rattle.waiting.specs.Waiting.{waitingFor, waitingForOfAll}
 use Rattle.waiting.specs.Days.{answersComputed, answersStated}
 use Rattle.waiting.proofs.Laws.{Means}
-use Rattle.runs.specs.Office.{Input, stateAfter, logOf, sentIn, leftOver, TurnsAbove, NumbersOnce}
+use Rattle.runs.specs.Office.{Input, OfSeats, stateAfter, logOf, sentIn, leftOver, TurnsAbove, NumbersOnce}
 use Rattle.runs.specs.World.{Item, WorldEvent, atFirst}
 use Rattle.runs.specs.Begins.{RestartsAbove}
 use Rattle.runs.specs.Files.{FileTurn, FileEvent, freshKept, keptAfter, leftKept, beginsWith, turnsOf}
-use Rattle.desk_runs.specs.Sent.{OfSeats, sentTo, hearings}
+use Rattle.desk_runs.specs.Sent.{sentTo, hearings}
 use Rattle.desk_runs.specs.Syncs.{syncAfter, SyncFor}
 use Rattle.desk_runs.specs.Days.{computedDay, statedDay, seatRefusals, seatReasons}
 use Rattle.settling.specs.Statement.{Settles, SettlesAfterCuts, SettlesWithFiles}

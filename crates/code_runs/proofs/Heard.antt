@@ -10,11 +10,12 @@ use Rattle.seats.specs.Seats.{seatCount}
 use Rattle.seats.specs.Offices.{officeOf}
 use Rattle.records.specs.Layout.{checkOf}
 use Rattle.rules.specs.Rules.{fresh}
-use Rattle.runs.specs.Office.{Input}
+use Rattle.runs.specs.Office.{Input, OfSeats}
+use Rattle.runs.proofs.OfficeFits.{read-fits}
 use Rattle.row.proofs.Holds.{Holds}
 use Rattle.desk.specs.Hearing.{freshDesk}
-use Rattle.desk_runs.specs.Sent.{OfSeats, sentTo, hearings}
-use Rattle.desk_runs.proofs.Runs.{read-fits, every-accepted}
+use Rattle.desk_runs.specs.Sent.{sentTo, hearings}
+use Rattle.desk_runs.proofs.Runs.{every-accepted}
 use Rattle.code_runs.specs.Rows.{Handed, rowSent, inputsOf}
 use Rattle.code_runs.proofs.Runs.{row-sent}
 

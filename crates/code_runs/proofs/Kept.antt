@@ -17,12 +17,12 @@ use Rattle.rules.specs.Rules.{Written, fresh}
 use Rattle.rules.specs.Refusals.{bytesOf, Result, takeOf, restartOf}
 use Rattle.rules.specs.Leaving.{Action, actionsOf, fileAfter, leftIn}
 use Rattle.rule_laws.proofs.Steps.{Refused, Takes, take-cases, step-takes, step-skips}
-use Rattle.runs.specs.Office.{answerTo}
+use Rattle.runs.specs.Office.{OfSeats, answerTo}
 use Rattle.runs.specs.Files.{KeptOffice, acts, cutAfter, done, restartAfter, nextKept, freshKept, leftKept, beginsWith}
 use Rattle.runs.proofs.FilesOnce.{WellKept, kept-passes, kept-next, fresh-kept}
+use Rattle.runs.proofs.OfficeFits.{read-fits}
 use Rattle.desk.specs.Hearing.{freshDesk}
-use Rattle.desk_runs.specs.Sent.{OfSeats, sentTo, hearings}
-use Rattle.desk_runs.proofs.Runs.{read-fits}
+use Rattle.desk_runs.specs.Sent.{sentTo, hearings}
 use Rattle.desk_runs.proofs.Turns.{files-accepted}
 use Rattle.row.specs.Row.{Row, stateOf}
 use Rattle.row.proofs.Holds.{Holds}

@@ -1,7 +1,7 @@
 -- From any row, and so from a fresh one: the words after a run hold the state after it, and what the code sent is
 -- what the rules send.
-use mathlib.Core.Path.{_≡_, refl, sym, ap, _∙_}
-use mathlib.Core.List.{List, [], _∷_, _++_, List·Memᴰ, List·Memᴰ·not-nil}
+use mathlib.Core.Path.{_≡_, refl, ap, _∙_}
+use mathlib.Core.List.{List, [], _∷_, List·Memᴰ, List·Memᴰ·not-nil}
 use Prim.Native.Nat.{ℕ}
 use native.Mathlib.Decide.{ℕ-discrete}
 use borrow.Author.Tests.{ne-eqb}
@@ -9,10 +9,9 @@ use Rattle.records.specs.Layout.{checkOf}
 use Rattle.records.specs.declared.View.{View}
 use Rattle.rule_laws.proofs.Steps.{step-takes, step-skips}
 use Rattle.laws.specs.Lists.{runs}
-use Rattle.rules.specs.State.{State}
-use Rattle.rules.specs.Rules.{Written, view}
+use Rattle.rules.specs.Rules.{view}
 use Rattle.rules.specs.Refusals.{eventOf, Result, takeOf, stepOf}
-use Rattle.runs.specs.Office.{Input, answerTo, nextState, LogEntry, stateAfter, logOf, sentIn}
+use Rattle.runs.specs.Office.{Input, answerTo, LogEntry, stateAfter, logOf, sentIn}
 use Rattle.runs.proofs.OfficeViews.{view-of-net}
 use Rattle.row.specs.Row.{Row, stateOf}
 use Rattle.row.proofs.Low.{is-row}

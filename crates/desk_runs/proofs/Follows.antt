@@ -2,7 +2,7 @@
 -- it.
 use mathlib.Core.Path.{_≡_, refl, sym, ap, _∙_}
 use mathlib.Core.Bool.{Bool, true, false}
-use mathlib.Core.List.{List, []}
+use mathlib.Core.List.{List}
 use Prim.Native.Nat.{ℕ, _^_, _≤_, _<_}
 use native.Mathlib.Omega.{arith}
 use native.Mathlib.Nat.{le-trans}
@@ -12,7 +12,6 @@ use Rattle.laws.proofs.Fin.{if-cases, and-r, true-false, largest-le}
 use Rattle.laws.proofs.Tab.{getD-tab, length-tab}
 use Rattle.laws.proofs.Upd.{upd-same, upd-other}
 use Rattle.seats.specs.Seats.{seatCount, has, containsOf}
-use Rattle.seats.proofs.Laws.{union-lt, without-lt}
 use Rattle.seats.specs.Offices.{officeOf}
 use Rattle.seats.proofs.OfficeLaws.{seat-serves}
 use Rattle.records.specs.Numbers.{limit}
@@ -26,10 +25,11 @@ use Rattle.rules.specs.Rules.{seated, opened, noticeOf, opens, nextNumber, ownP
 use Rattle.rules.specs.Rules.{proposesFast, received, beginsIn, slowNumber, proposesSlow, agreed, startOf, viewOf}
 use Rattle.rules.specs.Rules.{concluded, reportRule, proposalRule}
 use Rattle.rules.specs.Refusals.{Event, aReport, aProposal, wellFormed, refusalOf, ruleOf}
-use Rattle.rule_laws.proofs.Parts.{Reads, proposed-reads, received-reads, concluded-reads, made-is}
+use Rattle.rule_laws.proofs.Parts.{Reads, proposed-reads, received-reads, concluded-reads, made-is, net-after-fits}
 use Rattle.rule_laws.proofs.Tests.{agreed-out}
 use Rattle.rule_laws.proofs.Steps.{WellFormed, well-facts, Passes, check-facts}
 use Rattle.rule_laws.proofs.Walk.{slowRound, concludes, Tested, staged-report, staged-proposal}
+use Rattle.runs.specs.Office.{OfSeats}
 use Rattle.runs.proofs.OfficeRuns.{Beside}
 use Rattle.desk.specs.declared.checks.Desk.{Desk}
 use Rattle.desk.specs.SeatChecks.{aNotice, aView}
@@ -381,7 +381,7 @@ module _ (seat : ℕ) (lt : seat < seatCount) where
       (λ e w. stays (unseated-follows d s _ net e f)) (λ e. round-follows d _ (net-behind d s _ net (f .behind)) e)
     where
       net : netAfter (s .net .bits) r < 2 ^ 64
-      net = unfold netAfter in without-lt _ _ (union-lt _ _ (f .behind .fits) (t .joining))
+      net = net-after-fits (s .net .bits) r (f .behind .fits) t
 
   proposal-follows : (d : Desk) (s : State) (p : Proposal) → Passes s p → Follows d s
       → wellFormed (proposalRule s p .state) ≡ true → Follow d (proposalRule s p)
@@ -391,11 +391,7 @@ module _ (seat : ℕ) (lt : seat < seatCount) where
       (λ e. record { seat-in = unfold seated received in rw e at (c .ownSeat); follow = λ l. stays g })
 
   -- every accepted event, where a report's sets are sets of seats
-  abbrev pub FitsEvent : Event → Type 0
-  FitsEvent (aReport r) = FitsReport r
-  FitsEvent (aProposal p) = Unit {0}
-
-  pub event-follows : (d : Desk) (s : State) (e : Event) → FitsEvent e → refusalOf s e ≡ 0
+  pub event-follows : (d : Desk) (s : State) (e : Event) → OfSeats e → refusalOf s e ≡ 0
       → wellFormed (ruleOf s e .state) ≡ true → Follows d s
       → Follow d (ruleOf s e)
   event-follows d s (aReport r) t z w f = report-follows d s r t f w

@@ -5,40 +5,26 @@ use mathlib.Core.List.{List}
 use mathlib.Core.Logic.{_⊎_, inl, inr}
 use Prim.Native.Nat.{ℕ, _<_}
 use native.Mathlib.Omega.{arith}
-use lib.Dec.{eqb}
-use Rattle.laws.specs.Big.{Below}
 use Rattle.laws.specs.Lists.{Every}
-use Rattle.laws.proofs.Fin.{if-cases}
 use Rattle.seats.specs.Seats.{seatCount}
 use Rattle.seats.specs.Offices.{officeOf}
-use Rattle.records.specs.Layout.{reportMark, valueOf, markOf}
-use Rattle.records.proofs.RoundTrip.{report-fits}
 use Rattle.rules.specs.State.{State}
 use Rattle.rules.specs.Rules.{Written, fresh}
-use Rattle.rules.specs.Refusals.{Event, aReport, aProposal, eventOf, Result, takeOf}
+use Rattle.rules.specs.Refusals.{Result, takeOf}
 use Rattle.rule_laws.proofs.Parts.{fresh-reads}
 use Rattle.rule_laws.proofs.Steps.{Refused, Takes, take-cases, take-accepts}
-use Rattle.runs.specs.Office.{Input, answerTo, nextState, stateAfter, logOf, sentIn}
+use Rattle.runs.specs.Office.{Input, OfSeats, answerTo, nextState, stateAfter, logOf, sentIn}
 use Rattle.runs.proofs.OfficeRuns.{Beside, beside-run}
 use Rattle.desk.specs.declared.checks.Desk.{Desk}
 use Rattle.desk.specs.Hearing.{freshDesk}
-use Rattle.desk_runs.specs.Sent.{OfSeats, sentTo, hearings, deskAfter}
+use Rattle.desk_runs.specs.Sent.{sentTo, hearings, deskAfter}
 use Rattle.desk_runs.proofs.Taking.{Hears, at-end, hears-then, all-accepted, desk-then}
-use Rattle.desk_runs.proofs.Follows.{Follows, FitsEvent, event-follows}
-
--- a record that was read is such an event
-pub read-fits : (b : List ℕ) → Below 256 b → OfSeats (eventOf b)
-unfolding eventOf
-read-fits b h = if-cases OfSeats (eqb (markOf b) (valueOf reportMark)) _ _ (λ e. report-fits b h) (λ e. omega arith)
+use Rattle.desk_runs.proofs.Follows.{Follows, event-follows}
 
 module _ (seat : ℕ) (lt : seat < seatCount) where
   -- a seat beside the office that it follows
   abbrev Beside-it : Desk → List Written → State → Type 0
   Beside-it = Beside (Hears seat) (Follows seat lt)
-
-  sets-fit : (e : Event) → OfSeats e → FitsEvent seat lt e
-  sets-fit (aReport r) h = h
-  sets-fit (aProposal p) h = tt
 
   -- what an answer sends, accepted or not
   pub next-heard : (d : Desk) (s : State) (h : Input) → OfSeats (h .event) → Follows seat lt d s
@@ -54,7 +40,7 @@ module _ (seat : ℕ) (lt : seat < seatCount) where
       go (inl r) = rw (r .is) (record { then = d; told = at-end; holds = f })
       go (inr a) =
           rw (take-accepts s (h .event) (h .room) a)
-          (event-follows seat lt d s (h .event) (sets-fit (h .event) y) (a .acts .passes) (a .acts .within) f)
+          (event-follows seat lt d s (h .event) y (a .acts .passes) (a .acts .within) f)
 
   -- from any state that the seat follows; a fresh start is not needed
   pub run-heard : (d : Desk) (s : State) (hs : List Input) → Every (λ h. OfSeats (h .event)) hs → Follows seat lt d s

@@ -21,7 +21,7 @@ use Rattle.records.proofs.Lengths.{sync-length}
 use Rattle.records.proofs.RoundTrip.{sync-passes}
 use Rattle.rules.specs.Rules.{Written, notice, proposal, view, fresh}
 use Rattle.rules.specs.Refusals.{bytesOf}
-use Rattle.runs.specs.Office.{Input, logOf, sentIn}
+use Rattle.runs.specs.Office.{Input, OfSeats, logOf, sentIn}
 use Rattle.desk.specs.declared.checks.Desk.{Desk}
 use Rattle.desk.specs.Views.{startFor}
 use Rattle.desk.specs.declared.Heard.{Heard}
@@ -35,7 +35,7 @@ use Rattle.sheet.specs.declared.Along.the-variants as answers
 use Rattle.sheet.specs.Sheet.{recordsOn, counts, syncChecks, cameAlong}
 use Rattle.sheet.specs.Answers.{NoneCounts, GoodRecord, Tells, missing-seat}
 use Rattle.sheet.proofs.Exits.{missing-tells}
-use Rattle.desk_runs.specs.Sent.{OfSeats, forSeat, sentTo, hearings, deskAfter}
+use Rattle.desk_runs.specs.Sent.{forSeat, sentTo, hearings, deskAfter}
 use Rattle.desk_runs.specs.Syncs.{syncAfter, SyncFor}
 use Rattle.desk_runs.proofs.Runs.{every-accepted}
 

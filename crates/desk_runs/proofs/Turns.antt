@@ -10,13 +10,13 @@ use Rattle.seats.specs.Offices.{officeOf}
 use Rattle.rules.specs.State.{State}
 use Rattle.rules.specs.Rules.{fresh, restarted}
 use Rattle.rule_laws.proofs.Parts.{restarted-reads, restarted-view}
-use Rattle.runs.specs.Office.{Turn, handedAt, leftOver, TurnsAbove}
+use Rattle.runs.specs.Office.{OfSeats, Turn, handedAt, leftOver, TurnsAbove}
 use Rattle.runs.specs.Files.{FileTurn, freshKept, leftKept, beginsWith, turnsOf}
 use Rattle.runs.proofs.OfficeTurns.{beside-turns}
 use Rattle.runs.proofs.FilesOnce.{kept-turns, kept-handed}
 use Rattle.desk.specs.declared.checks.Desk.{Desk}
 use Rattle.desk.specs.Hearing.{freshDesk}
-use Rattle.desk_runs.specs.Sent.{OfSeats, sentTo, hearings}
+use Rattle.desk_runs.specs.Sent.{sentTo, hearings}
 use Rattle.desk_runs.proofs.Taking.{Hears, at-end, hears-then, hears-take, DeskUpTo, hears-up-to, all-accepted}
 use Rattle.desk_runs.proofs.Follows.{Follows}
 use Rattle.desk_runs.proofs.Runs.{next-heard, fresh-follows}

@@ -1,21 +1,15 @@
 -- What an office sends to one of its seats, and what the seat answers.
 use mathlib.Core.Bool.{Bool, false}
 use mathlib.Core.List.{List, [], _∷_}
-use Prim.Native.Nat.{ℕ, _≤_}
-use Rattle.records.specs.Fits.{FitsReport}
+use Prim.Native.Nat.{ℕ}
 use Rattle.laws.specs.Lists.{runs}
 use Rattle.laws.specs.Upd.{ifb}
 use Rattle.seats.specs.Seats.{containsOf}
 use Rattle.rules.specs.Rules.{Written, notice, proposal, view}
-use Rattle.rules.specs.Refusals.{bytesOf, Event, aReport, aProposal}
+use Rattle.rules.specs.Refusals.{bytesOf}
 use Rattle.desk.specs.declared.checks.Desk.{Desk}
 use Rattle.desk.specs.declared.Heard.{Heard}
 use Rattle.desk.specs.Hearing.{hearOf}
-
--- the sets handed in are sets of seats, as those of a record that was read are
-abbrev pub OfSeats : Event → Type 0
-OfSeats (aReport r) = FitsReport r
-OfSeats (aProposal p) = 0 ≤ 0
 
 -- a record is for the seat: a notice or view whose members hold it
 abbrev pub forSeat : ℕ → Written → Bool

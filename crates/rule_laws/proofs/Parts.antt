@@ -1,14 +1,18 @@
 -- What every part of the state is after each part of an event, one law for each.
 use mathlib.Core.Path.{_≡_, refl}
-use Prim.Native.Nat.{ℕ, _+_, _<_, max}
+use Prim.Native.Nat.{ℕ, _+_, _^_, _<_, max}
 use Rattle.laws.proofs.Tab.{getD-tab}
 use Rattle.laws.specs.Upd.{ifb, upd}
 use Rattle.seats.specs.Offices.{serves}
+use Rattle.seats.proofs.Laws.{union-lt, without-lt}
+use Rattle.records.specs.Fits.{FitsReport}
+use Rattle.records.specs.declared.Report.{Report}
 use Rattle.records.specs.declared.Proposal.{Proposal}
 use Rattle.records.specs.declared.View.{View}
 use Rattle.rules.specs.State.{Mode, None, Slot, State, kindOf, nothing, keeping, storedAt, acceptedAt, usedAt, usedFor}
 use Rattle.rules.specs.State.{numberIn}
-use Rattle.rules.specs.Rules.{fresh, restarted, withNet, opened, ownProposal, proposed, received, concluded, viewOf}
+use Rattle.rules.specs.Rules.{fresh, restarted, netAfter, withNet, opened, ownProposal, proposed, received, concluded}
+use Rattle.rules.specs.Rules.{viewOf}
 
 -- the parts of a state, those of an office o for every o below 16
 pub record Reads (t : State) (own : ℕ) (mode : Mode) (net : ℕ) (stored : ℕ → Slot) (accepted : ℕ → ℕ) (view : View)
@@ -52,6 +56,11 @@ pub fresh-reads : (own : ℕ)
     → Reads (fresh own) own None 0 (λ o. nothing) (λ o. 0) (fresh own .view) 0 0 (λ o. 0)
 unfolding fresh
 fresh-reads own = restarted-reads own 0
+
+-- a report of sets of seats makes a set of seats
+pub net-after-fits : (x : ℕ) (r : Report) → x < 2 ^ 64 → FitsReport r → netAfter x r < 2 ^ 64
+unfolding netAfter
+net-after-fits x r l f = without-lt _ _ (union-lt _ _ l (f .joining))
 
 module _ (s : State) where
   pub withNet-reads : (x : ℕ)

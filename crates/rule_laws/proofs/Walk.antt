@@ -2,27 +2,40 @@
 use mathlib.Core.Path.{_≡_, refl, sym, ap, subst}
 use mathlib.Core.Bool.{true, false}
 use mathlib.Core.List.{List, [], _∷_, append-assoc, append-nil}
-use Prim.Native.Nat.{ℕ}
+use Prim.Native.Nat.{ℕ, _<_}
 use native.Mathlib.Omega.{arith}
 use lib.Dec.{eqb}
 use borrow.Author.Tests.{eqb-true, eqb-false}
 use Rattle.laws.proofs.Fin.{if-cases}
 use Rattle.records.specs.declared.Report.{Report}
 use Rattle.records.specs.declared.Proposal.{Proposal}
-use Rattle.rules.specs.State.{Mode, None, Fast, Slow, State}
+use Rattle.rules.specs.State.{Mode, None, Fast, Slow, State, usedAt}
 use Rattle.rules.specs.Rules.{Written, view, Outcome, nothingWritten, andThen, netAfter, withNet, repeats, seated}
 use Rattle.rules.specs.Rules.{opened, opens, proposesFast, received}
 use Rattle.rules.specs.Rules.{slowCalled, beginsIn, proposesSlow, slowTest, agreed, viewOf, concluded, agreementTest}
 use Rattle.rules.specs.Rules.{tests, changeRule, reportRule}
 use Rattle.rules.specs.Rules.{proposalRule}
 use Rattle.rules.specs.Refusals.{Event, aReport, aProposal, ruleOf}
-use Rattle.rule_laws.proofs.Parts.{received-reads}
+use Rattle.rule_laws.proofs.Parts.{withNet-reads, received-reads}
 use Rattle.rule_laws.proofs.Repeats.{repeat-state}
 
 -- the state in which the first change of an event leaves the office: step 1 of a report, or a proposal stored
 abbrev pub arrived : State → Event → State
 arrived s (aReport r) = withNet s (netAfter (s .net .bits) r)
 arrived s (aProposal p) = received s p
+
+-- it changes neither the office nor its numbers
+pub arrived-own : (s : State) (e : Event) → arrived s e .own ≡ s .own
+arrived-own s (aReport r) = withNet-reads s (netAfter (s .net .bits) r) .own-is
+arrived-own s (aProposal p) = received-reads s p .own-is
+
+pub arrived-number : (s : State) (e : Event) → arrived s e .number ≡ s .number
+arrived-number s (aReport r) = withNet-reads s (netAfter (s .net .bits) r) .number-is
+arrived-number s (aProposal p) = received-reads s p .number-is
+
+pub arrived-used : (s : State) (e : Event) (o : ℕ) → o < 16 → usedAt (arrived s e) o ≡ usedAt s o
+arrived-used s (aReport r) = withNet-reads s (netAfter (s .net .bits) r) .used-is
+arrived-used s (aProposal p) = received-reads s p .used-is
 
 -- the slow test and the agreement test, where they hold
 abbrev pub slowRound : State → Outcome

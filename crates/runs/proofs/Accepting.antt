@@ -1,8 +1,8 @@
 -- What an office answers: where only the room or the ceiling can refuse, and where a proposal is not of the net view.
-use mathlib.Core.Path.{_≡_, refl, sym, ap, _∙_}
+use mathlib.Core.Path.{_≡_, refl, ap, _∙_}
 use mathlib.Core.Bool.{Bool, true, false}
 use mathlib.Core.Logic.{_⊎_, inl, inr}
-use mathlib.Core.List.{List, []}
+use mathlib.Core.List.{[]}
 use Prim.Native.Nat.{ℕ}
 use lib.Dec.{ltb}
 use borrow.Author.Tests.{ltb-false}
@@ -11,7 +11,6 @@ use Rattle.rules.specs.State.{State}
 use Rattle.rules.specs.Rules.{Outcome}
 use Rattle.rules.specs.Refusals.{fullRoom, wellFormed, Event, aProposal, refusalOf, ruleOf, accepting, actOf, Result}
 use Rattle.rules.specs.Refusals.{takeOf}
-use Rattle.rules.specs.Refusals.{accepted}
 use Rattle.rule_laws.proofs.Steps.{Refused, Takes, Passes, check-facts, take-accepts, take-cases}
 use Rattle.runs.specs.World.{World, proposalAnswer}
 use Rattle.runs.proofs.Arrays.{Barred}

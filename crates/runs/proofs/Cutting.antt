@@ -15,10 +15,11 @@ use Rattle.seats.specs.Offices.{serves}
 use Rattle.records.specs.Numbers.{limit}
 use Rattle.records.specs.declared.Proposal.{Proposal}
 use Rattle.rules.specs.State.{None, State, usedAt, usedFor}
-use Rattle.rules.specs.Rules.{Written, notice, proposal, view, Outcome, restarted, netAfter}
+use Rattle.rules.specs.Rules.{Written, notice, proposal, view, Outcome, restarted}
 use Rattle.rules.specs.Leaving.{ownNumber}
-use Rattle.rules.specs.Refusals.{Event, aReport, aProposal, ruleOf, takeOf}
-use Rattle.rule_laws.proofs.Parts.{restarted-reads, withNet-reads, received-reads}
+use Rattle.rules.specs.Refusals.{Event, aReport, aProposal, takeOf}
+use Rattle.rule_laws.proofs.Parts.{restarted-reads}
+use Rattle.rule_laws.proofs.Walk.{arrived-used}
 use Rattle.rule_laws.proofs.Steps.{Refused, Takes, take-accepts, take-cases, restarted-well}
 use Rattle.rule_laws.proofs.Monotone.{Ascending, at-end, past-notice, past-view, past-proposal, take-rises}
 use Rattle.runs.specs.World.{Item, World, Underway, nothing-begun, begun-report, begun-delivery, WorldEvent, cut}
@@ -33,7 +34,7 @@ use Rattle.runs.proofs.Links.{every-without}
 use Rattle.runs.proofs.StateArrays.{Sim}
 use Rattle.runs.proofs.RulesArrays.{Same, Moved}
 use Rattle.runs.proofs.Proposals.{EachProposal, a-notice, a-proposal, a-view, each-map, MadeBetween}
-use Rattle.runs.proofs.Proposals.{makes-report, makes-proposal, step-names}
+use Rattle.runs.proofs.Proposals.{makes-event, step-names}
 use Rattle.runs.proofs.WorldArrays.{Seen, SeenAll, Sends, GoodAnswer, Linked, logged-every, seen-but}
 use Rattle.runs.proofs.WorldArrays.{seen-moved, seen-linked, seen-outside, below-sixteen}
 use Rattle.runs.proofs.Reporting.{report-sends}
@@ -72,14 +73,10 @@ made-tells s t u e p m o lt =
 take-tells : (s : State) (e : Event) (room : ℕ) → EachProposal (TellsOf (usedAt s)) (takeOf s e room .written)
 take-tells s e room = go (take-cases s e room)
   where
-    of : (e : Event) → EachProposal (TellsOf (usedAt s)) (ruleOf s e .written)
-    of (aReport r) = each-map (made-tells s _ _ (withNet-reads s (netAfter (s .net .bits) r) .used-is))
-        (makes-report s r .sends)
-    of (aProposal p) = each-map (made-tells s _ _ (received-reads s p .used-is)) (makes-proposal s p .sends)
-
     go : Refused s (takeOf s e room) ⊎ Takes s e room → EachProposal (TellsOf (usedAt s)) (takeOf s e room .written)
     go (inl r) = rw (r .is) none
-    go (inr a) = rw (take-accepts s e room a) (of e)
+    go (inr a) =
+        rw (take-accepts s e room a) (each-map (made-tells s _ _ (arrived-used s e)) (makes-event s e .sends))
 
 -- what is at or above all that left
 top-le : (k n : ℕ) (ws : List Written) → n ≤ k → Every (λ w. ownNumber w ≤ k) ws → topAfter ws n ≤ k
@@ -183,7 +180,7 @@ module _ (F : ℕ → Bool) where
     nothing = record {
       climbs = climbs-none;
       tells = none;
-      sends = record { valid = none; below = none; names = none };
+      sends = record { valid = none; names = none };
     }
 
     begun : (b : Underway) → Among (cut me b left m) → BegunAnswer (begunWrites w me b)
@@ -235,7 +232,6 @@ module _ (F : ℕ → Bool) where
           };
           own = r .own-is;
           sends = every-take left (x .valid);
-          below = every-take left (x .below);
           names = every-take left (x .names);
         } in
         seen-moved F v h (restart h me m (left-of b) (w .clock)) me out s ans q

@@ -34,7 +34,7 @@ use Rattle.runs.proofs.Proposals.{EachProposal, each-map, Begun, Makes,
 use Rattle.runs.proofs.Accepting.{accepted-or-barred}
 use Rattle.runs.proofs.WorldArrays.{Good, Seen, SeenAll, Sends, GoodAnswer, Linked, seen-moved, seen-linked}
 use Rattle.runs.proofs.WorldArrays.{below-sixteen}
-use Rattle.runs.proofs.Valid.{Valid, made-below, made-valid}
+use Rattle.runs.proofs.Valid.{Valid, made-valid}
 
 module _ (F : ℕ → Bool) where
   -- a link that does not lead from an office of F
@@ -153,7 +153,7 @@ module _ (F : ℕ → Bool) where
           (moved-none (w .clock) me h own-state m))
         where
           ans : GoodAnswer F me (nothingWritten own-state)
-          ans = record { is-good = good-me; own = sim-me .own; sends = none; below = none; names = none }
+          ans = record { is-good = good-me; own = sim-me .own; sends = none; names = none }
 
       refused-outside : (InF F i → ⊥) → Acted
       refused-outside out = (
@@ -279,7 +279,6 @@ module _ (F : ℕ → Bool) where
             };
             own = makes .own ∙ own-is;
             sends = valid;
-            below = each-map (made-below stored-at (proposalRule own-state p .state) me (q .0) behind) (makes .sends);
             names = each-map (λ p n. n .sender ∙ own-is) (makes .sends);
           }
 
@@ -291,8 +290,8 @@ module _ (F : ℕ → Bool) where
           = ap (λ (y : ℕ). serves y me) (net-is ∙ sym same) ∙ ap (serves (p .members .bits)) (sym (sim-me .own))
           ∙ passed .ownSeat in
           let lt : stored-at .net .bits < 2 ^ 64 = rw net-is (good-me .net) in
-          let valid = made-valid stored-at (proposalRule own-state p .state) me own-is (q .0) lt seat within-used
-          (well-facts _ within-limit) begun-is in (
+          let valid = made-valid stored-at (proposalRule own-state p .state) me own-is (q .0) lt within-used
+          (well-facts _ within-limit) seat behind begun-is in (
             t .0,
             answers p l arrives (same ∙ sim-me .net) (t .1),
             ends (t .0) (t .2) (each-map valid (makes-proposal own-state p .sends)),
@@ -336,7 +335,7 @@ module _ (F : ℕ → Bool) where
     delivery-sends = go (take-cases own-state (aProposal p) room)
       where
         nothing : Sends F me []
-        nothing = record { valid = none; below = none; names = none }
+        nothing = record { valid = none; names = none }
 
         of : (a : Takes own-state (aProposal p) room) → Dec (p .members .bits ≡ own-state .net .bits)
             → Sends F me (proposalRule own-state p .written)
@@ -347,12 +346,10 @@ module _ (F : ℕ → Bool) where
             = ap (λ (y : ℕ). serves y me) (net-is a ∙ sym same) ∙ ap (serves (p .members .bits)) (sym (sim-me .own))
             ∙ passed a .ownSeat in
             let lt : stored-at a .net .bits < 2 ^ 64 = rw (net-is a) (good-me .net) in
-            let valid = made-valid (stored-at a) (proposalRule own-state p .state) me (own-is a) (q .0) lt seat
-            (within-used a) (well-facts _ (within-limit a)) (begun-is a) in
+            let valid = made-valid (stored-at a) (proposalRule own-state p .state) me (own-is a) (q .0) lt
+            (within-used a) (well-facts _ (within-limit a)) seat (behind a) (begun-is a) in
             record {
               valid = each-map valid (makes .sends);
-              below = each-map (made-below (stored-at a) (proposalRule own-state p .state) me (q .0) (behind a))
-                  (makes .sends);
               names = each-map (λ p n. n .sender ∙ own-is a) (makes .sends);
             }
 

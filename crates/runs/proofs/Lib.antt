@@ -12,6 +12,9 @@ pub mod Numbers
 pub mod Proposals
 pub mod Accepting
 pub mod Valid
+pub mod EachSent
+pub mod OfficeUsed
+pub mod OfficeFits
 pub mod StateArrays
 pub mod RulesArrays
 pub mod WorldArrays

@@ -7,7 +7,6 @@ use mathlib.Core.List.{List, [], _∷_, _++_}
 use Prim.Native.Nat.{ℕ, zero, suc, _+_, _≤_, _<_}
 use native.Mathlib.Omega.{arith}
 use lib.ListN.{take}
-use Rattle.laws.specs.Lists.{Every, none, more}
 use Rattle.laws.proofs.Lists.{every-head, every-tail}
 use Rattle.laws.proofs.Fin.{largest-le, true-false}
 use Rattle.laws.proofs.Upd.{upd-same, upd-other}
@@ -27,10 +26,10 @@ use Rattle.rule_laws.proofs.Parts.{received-reads, concluded-reads, made-is}
 use Rattle.rule_laws.proofs.Tests.{agreed-out, next-above, slow-above}
 use Rattle.rule_laws.proofs.Steps.{Passes, check-facts, Refused, Takes, take-cases, take-accepts}
 use Rattle.rule_laws.proofs.Walk.{slowRound, concludes, Tested, staged-report, staged-proposal}
-use Rattle.runs.specs.Office.{Input, answerTo, nextState, Turn, handedAt, leftOver, TurnsAbove, ofProposal}
+use Rattle.runs.specs.Office.{Input, answerTo, nextState, Turn, leftOver, TurnsAbove, ofProposal}
 use Rattle.runs.specs.Office.{ofNotice, ofView, picked, Ascends, no-number, a-number, NumbersOnce}
 use Rattle.runs.proofs.OfficeRuns.{Beside}
-use Rattle.runs.proofs.OfficeTurns.{AllUpTo, beside-turns}
+use Rattle.runs.proofs.OfficeTurns.{Any, any-turns, AllUpTo, beside-turns}
 
 -- the last numbers that left: of a proposal, of a start notice, of a view
 pub record Given : Type 0 where
@@ -367,13 +366,6 @@ views-ascend gives-none = no-number
 views-ascend (gives-notice l x) = views-ascend x
 views-ascend (gives-proposal l x) = views-ascend x
 views-ascend (gives-view l x) = a-number l (views-ascend x)
-
-abbrev Any : Input → Type 0
-Any h = Unit {0}
-
-any-turns : (ts : List Turn) → Every (λ t. Any (handedAt t)) ts
-any-turns [] = none
-any-turns (t ∷ ts) = more tt (any-turns ts)
 
 -- From a fresh office, whatever is handed to it and wherever it is cut off, if it always begins again at or above
 -- every number that left.

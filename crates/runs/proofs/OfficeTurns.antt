@@ -13,6 +13,14 @@ use Rattle.runs.specs.Office.{Input, answerTo, nextState, Turn, entire, 
 use Rattle.runs.specs.Office.{leftOver, TurnAbove, TurnsAbove, no-turn, a-turn}
 use Rattle.runs.proofs.OfficeRuns.{Beside}
 
+-- anything may be handed in
+abbrev pub Any : Input → Type 0
+Any h = Unit {0}
+
+pub any-turns : (ts : List Turn) → Every (λ t. Any (handedAt t)) ts
+any-turns [] = none
+any-turns (t ∷ ts) = more tt (any-turns ts)
+
 -- every number given out in these records is at most m
 abbrev pub AllUpTo : ℕ → List Written → Type 0
 AllUpTo m ws = Every (λ w. ownNumber w ≤ m) ws

@@ -22,14 +22,14 @@ use Rattle.rules.specs.State.{Mode, None, Fast, Slow, State, fast, slow, kindOf
 use Rattle.rules.specs.Rules.{Written, notice, proposal, view, Outcome, nothingWritten, andThen, hasRecipient}
 use Rattle.rules.specs.Rules.{netAfter, repeats, seated, ownProposal, proposed, opens, slowNumber, nextNumber}
 use Rattle.rules.specs.Rules.{proposesSlow, proposesFast, received, reportRule, proposalRule}
-use Rattle.rules.specs.Refusals.{Event, aReport, aProposal, takeOf}
+use Rattle.rules.specs.Refusals.{Event, aReport, ruleOf, takeOf}
 use Rattle.rule_laws.proofs.Steps.{Refused, Takes, take-accepts, take-cases}
 use Rattle.rule_laws.proofs.Parts.{withNet-reads, opened-reads, proposed-reads, received-reads, concluded-reads}
 use Rattle.rule_laws.proofs.Parts.{made-is, made-used}
 use Rattle.rule_laws.proofs.Repeats.{repeat-state, again-repeats}
 use Rattle.rule_laws.proofs.Tests.{slow-above, next-above}
-use Rattle.rule_laws.proofs.Walk.{arrived, concludes, ProposesFast, ProposesSlow, after-opening, in-round, Walk}
-use Rattle.rule_laws.proofs.Walk.{Tested, staged-report, staged-proposal, walk-report, walk-proposal, walk-event}
+use Rattle.rule_laws.proofs.Walk.{arrived, arrived-own, concludes, ProposesFast, ProposesSlow, after-opening, in-round}
+use Rattle.rule_laws.proofs.Walk.{Walk, Tested, staged-report, staged-proposal, walk-report, walk-proposal, walk-event}
 
 -- P holds of a record if it is a proposal, and of each proposal written
 pub data IfProposal (P : Proposal → Type 0) : Written → Type 0 where
@@ -48,6 +48,9 @@ each-map {P} {Q} f = every-map one
     one (notice n) a-notice = a-notice
     one (proposal p) (a-proposal h) = a-proposal (f p h)
     one (view v) a-view = a-view
+
+pub is-proposal : {P : Proposal → Type 0} {p : Proposal} → IfProposal P (proposal p) → P p
+is-proposal (a-proposal h) = h
 
 -- a round is open only after a start number was given out
 abbrev pub Begun : State → Type 0
@@ -261,6 +264,9 @@ makes-report = walk-report making
 pub makes-proposal : (s : State) (p : Proposal) → Makes (received s p) (proposalRule s p)
 makes-proposal = walk-proposal making
 
+pub makes-event : (s : State) (e : Event) → Makes (arrived s e) (ruleOf s e)
+makes-event = walk-event making
+
 -- where nothing more is done: a report with no seat of its own, a proposal with other members than the net view
 nowhere : {P : Outcome → Type 0} → Tested (λ o. ⊥) (λ o. ⊥) P
 nowhere = record {
@@ -297,13 +303,10 @@ pub step-names : (s : State) (e : Event) (room : ℕ)
     → (takeOf s e room .state .own ≡ s .own) × EachProposal (λ p. p .sender ≡ s .own) (takeOf s e room .written)
 step-names s e room = go (take-cases s e room)
   where
-    arrived-own : (e : Event) → arrived s e .own ≡ s .own
-    arrived-own (aReport r) = withNet-reads s (netAfter (s .net .bits) r) .own-is
-    arrived-own (aProposal p) = received-reads s p .own-is
-
     go : Refused s (takeOf s e room) ⊎ Takes s e room
         → (takeOf s e room .state .own ≡ s .own) × EachProposal (λ p. p .sender ≡ s .own) (takeOf s e room .written)
     go (inl r) = rw (r .is) (refl, none)
     go (inr a) =
-        let m = walk-event making s e in
-        rw (take-accepts s e room a) (m .own ∙ arrived-own e, each-map (λ p k. k .sender ∙ arrived-own e) (m .sends))
+        let m = makes-event s e in
+        let own = arrived-own s e in
+        rw (take-accepts s e room a) (m .own ∙ own, each-map (λ p k. k .sender ∙ own) (m .sends))

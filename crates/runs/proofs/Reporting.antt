@@ -2,14 +2,13 @@
 use mathlib.Core.Path.{_≡_, refl, sym, ap, subst, _∙_}
 use mathlib.Core.Bool.{Bool, true, false}
 use mathlib.Core.Logic.{_⊎_, inl, inr}
-use mathlib.Core.List.{List, []}
+use mathlib.Core.List.{[]}
 use Prim.Native.Nat.{ℕ, _^_, _≤_, _<_}
 use native.Mathlib.Omega.{arith}
 use Rattle.laws.specs.Lists.{none}
 use Rattle.laws.proofs.Fin.{true-false}
 use Rattle.laws.proofs.Upd.{upd-other}
 use Rattle.seats.specs.Offices.{serves}
-use Rattle.seats.proofs.Laws.{union-lt, without-lt}
 use Rattle.records.specs.Fits.{FitsReport}
 use Rattle.records.specs.declared.Report.{Report}
 use Rattle.rules.specs.State.{State, usedAt}
@@ -18,7 +17,7 @@ use Rattle.records.specs.Numbers.{limit}
 use Rattle.rules.specs.Refusals.{wellFormed, aReport, Result, takeOf, accepted}
 use Rattle.rule_laws.proofs.Steps.{Refused, Takes, well-facts, take-accepts}
 use Rattle.rule_laws.proofs.Repeats.{repeat-net, change-net, repeat-rule}
-use Rattle.rule_laws.proofs.Parts.{withNet-reads}
+use Rattle.rule_laws.proofs.Parts.{withNet-reads, net-after-fits}
 use Rattle.rule_laws.proofs.Walk.{staged-report}
 use Rattle.runs.specs.World.{World, report, answered, reportAnswer, Among}
 use Rattle.runs.specs.Begins.{InF}
@@ -27,7 +26,7 @@ use Rattle.runs.proofs.StateArrays.{Sim, sim-renet}
 use Rattle.runs.proofs.RulesArrays.{Moved, moved-none, moving, fast-moves}
 use Rattle.runs.proofs.Proposals.{EachProposal, each-map, Begun, Makes, makes-report, unseated-report}
 use Rattle.runs.proofs.Accepting.{accepted-or-barred}
-use Rattle.runs.proofs.Valid.{Valid, made-below, made-valid}
+use Rattle.runs.proofs.Valid.{Valid, made-valid}
 use Rattle.runs.proofs.WorldArrays.{Good, Seen, SeenAll, Sends, GoodAnswer, SameOwn, seen-but, seen-moved}
 use Rattle.runs.proofs.WorldArrays.{seen-turned, below-sixteen}
 
@@ -57,7 +56,7 @@ module _ (F : ℕ → Bool) where
         (moved-none (w .clock) me g mine sim)
       where
         ans : GoodAnswer F me (nothingWritten mine)
-        ans = record { is-good = good; own = sim .own; sends = none; below = none; names = none }
+        ans = record { is-good = good; own = sim .own; sends = none; names = none }
 
     -- refused: nothing happens
     refused-acts : Refused mine (takeOf mine (aReport rep) room) → Barred (takeOf mine (aReport rep) room)
@@ -69,8 +68,7 @@ module _ (F : ℕ → Bool) where
     made-net = netAfter (mine .net .bits) rep
 
     net-below : made-net < 2 ^ 64
-    unfolding netAfter
-    net-below = without-lt _ _ (union-lt _ _ (good .net) (fits .joining))
+    net-below = net-after-fits (mine .net .bits) rep (good .net) fits
 
     renetted-kept : (a : ℕ) → (a ≡ me → ⊥) → SameOwn F g (renet g me made-net) a
     unfolding renet
@@ -141,7 +139,6 @@ module _ (F : ℕ → Bool) where
             };
             own = makes .own ∙ turned-own;
             sends = valid;
-            below = each-map (made-below turned (reportRule mine rep .state) me (q .0) behind) (makes .sends);
             names = each-map (λ p m. m .sender ∙ turned-own) (makes .sends);
           }
 
@@ -174,7 +171,7 @@ module _ (F : ℕ → Bool) where
           (λ k. absurd (true-false _ k c)) (λ n. absurd (true-false _ e n)) (λ _. f .1) in
           let seat : serves (turned .net .bits) me ≡ true = ap (serves (turned .net .bits)) (sym turned-own) ∙ e in
           let valid = made-valid turned (reportRule mine rep .state) me turned-own (q .0) (rw turned-net net-below)
-          seat within (well-facts _ passes) turned-begun in (
+          within (well-facts _ passes) seat behind turned-begun in (
             t .0,
             reports made-net _ q (changed c) (f .0) (t .1),
             ends (t .0) (t .2) (each-map valid (makes-report mine rep .sends)),
@@ -203,7 +200,7 @@ module _ (F : ℕ → Bool) where
     report-sends = go (accepted-or-barred mine (aReport rep) room (good .passes) refl)
       where
         nothing : Sends F me []
-        nothing = record { valid = none; below = none; names = none }
+        nothing = record { valid = none; names = none }
 
         of : (a : Takes mine (aReport rep) room) (u : Bool) → repeats mine rep ≡ u → (t : Bool) → seated turned ≡ t
             → Sends F me (reportRule mine rep .written)
@@ -214,10 +211,9 @@ module _ (F : ℕ → Bool) where
             let seat : serves (turned .net .bits) me ≡ true = ap (serves (turned .net .bits)) (sym turned-own)
             ∙ (unfold seated in e) in
             let valid = made-valid turned (reportRule mine rep .state) me turned-own (q .0)
-            (rw turned-net net-below) seat within (well-facts _ (passes a)) turned-begun in
+            (rw turned-net net-below) within (well-facts _ (passes a)) seat behind turned-begun in
             record {
               valid = each-map valid (makes .sends);
-              below = each-map (made-below turned (reportRule mine rep .state) me (q .0) behind) (makes .sends);
               names = each-map (λ p m. m .sender ∙ turned-own) (makes .sends);
             }
 

@@ -1,16 +1,15 @@
 -- Every run whose offices of F begin fresh: at each place arrays show the world and satisfy the invariants of the
--- numbers. Two consequences, whatever is lost or refused.
+-- numbers. So the numbers on each link rise, whatever is lost or refused.
 use mathlib.Core.Path.{sym, subst}
 use mathlib.Core.Bool.{Bool}
 use mathlib.Core.List.{List}
-use Prim.Native.Nat.{ℕ, _+_, _≤_, _<_}
+use Prim.Native.Nat.{ℕ, _+_, _≤_}
 use native.Mathlib.Omega.{arith}
 use lib.ListN.{length}
 use Rattle.laws.specs.Lists.{runs}
-use Rattle.records.specs.declared.Proposal.{Proposal}
-use Rattle.rules.specs.State.{State, usedFor}
+use Rattle.rules.specs.State.{State}
 use Rattle.runs.specs.World.{Item, World, WorldEvent, atFirst, at, Nth}
-use Rattle.runs.specs.Begins.{InF, Begins, AllAmong, RestartsAbove, HasSent, Rising}
+use Rattle.runs.specs.Begins.{Begins, AllAmong, RestartsAbove, Rising}
 use Rattle.runs.proofs.Arrays.{Offices, FromF, Numbers, Happens}
 use Rattle.runs.proofs.Links.{rising-high}
 use Rattle.runs.proofs.Numbers.{numbers-acts}
@@ -72,8 +71,3 @@ module _ (F : ℕ → Bool) (states : ℕ → State) (links : ℕ → ℕ → Li
       let s = any-time n l in
       rw (s .1 .links i j f, s .1 .sim i (f .0) (below-sixteen F (f .0 .0)) .num)
       (rising-high _ (s .2 .top-num i (f .0)) (s .2 .rows i j f))
-
-  -- a proposal that an office of F has sent has a used number for that office below its own number
-  pub used-below : (n : ℕ) → n ≤ length es → (i : ℕ) → InF F i → (p : Proposal) → HasSent (world n) i p
-      → usedFor p i < p .number
-  used-below n l i a = any-time n l .1 .below i a

@@ -27,6 +27,7 @@ pub record Valid (i j : ℕ) (p : Proposal) : Type 0 where
   pub seat : serves (p .members .bits) i ≡ true
   pub to-seat : serves (p .members .bits) j ≡ true
   pub stray : (o : ℕ) → o < 16 → serves (p .members .bits) o ≡ false → usedFor p o ≡ 0
+  pub used-below : usedFor p i < p .number
   pub fits : FitsProposal p
 
 -- where the own used number is not above the own number, that of a proposal made is below its number
@@ -37,41 +38,29 @@ made-below s u me lt le p m =
     let b = if-le (serves (s .net .bits) me) (usedAt s me) 0 (s .number) le (omega arith) in
     rw (m .used me lt) (omega arith)
 
--- a proposal made in a good state is valid for whoever receives it
+-- a proposal made in a state of office me that has sets of seats and passes check 2, as the state after it does
 module _ (s u : State) (me : ℕ) (own : s .own ≡ me) (lt : me < 16) (net : s .net .bits < 2 ^ 64)
-    (seat : serves (s .net .bits) me ≡ true)
-    (within : (o : ℕ) → o < 16 → usedAt s o ≤ limit) (wf : WellFormed u) (begun : Begun s) where
-  pub made-valid : (p : Proposal) → MadeBetween s u p → (j : ℕ) → receives p j ≡ true → Valid me j p
-  unfolding receives
-  made-valid p m j r =
-      let a = m .start in
-      let a1 = a .1 in
+    (within : (o : ℕ) → o < 16 → usedAt s o ≤ limit) (wf : WellFormed u) where
+  used-within : (p : Proposal) → MadeBetween s u p → (o : ℕ) → o < 16 → usedFor p o ≤ limit
+  used-within p m o l =
+      rw (m .used o l) (if-le (serves (s .net .bits) o) (usedAt s o) 0 limit (within o l) (omega arith))
+
+  -- fits its record
+  pub made-fits : (p : Proposal) → MadeBetween s u p → FitsProposal p
+  made-fits p m =
+      let a = m .start .1 in
       let b = m .number in
       let c = wf .start in
       let d = wf .number in
       record {
-        sender = m .sender ∙ own;
-        kind = m .kind;
-        start = (a .0 begun, omega arith);
-        number = (omega arith, omega arith);
-        used = used-within;
-        seat = rw (m .members) seat;
-        to-seat = and-l (serves (p .members .bits) j) _ r;
-        stray = λ o l e. m .used o l ∙ rw (← (m .members), e);
-        fits = record {
-          sender = let q = m .sender in omega arith;
-          kind = small (m .kind);
-          members = rw (m .members) net;
-          start = omega arith;
-          number = omega arith;
-          used = record { count = m .sixteen; each = below };
-        };
+        sender = let q = m .sender in omega arith;
+        kind = small (m .kind);
+        members = rw (m .members) net;
+        start = omega arith;
+        number = omega arith;
+        used = record { count = m .sixteen; each = below };
       }
     where
-      used-within : (o : ℕ) → o < 16 → usedFor p o ≤ limit
-      used-within o l =
-          rw (m .used o l) (if-le (serves (s .net .bits) o) (usedAt s o) 0 limit (within o l) (omega arith))
-
       small : (p .kind ≡ fast) ⊎ (p .kind ≡ slow) → p .kind < 256
       small (inl e) = omega arith
       small (inr e) = omega arith
@@ -80,10 +69,33 @@ module _ (s u : State) (me : ℕ) (own : s .own ≡ me) (lt : me < 16) (net : s 
       below k = go (ltb k 16) refl
         where
           go : (t : Bool) → ltb k 16 ≡ t → getD (p .used) k 0 < 2 ^ 32
-          go true e = let q = used-within k (ltb-true k 16 e) in omega arith
+          go true e = let q = used-within p m k (ltb-true k 16 e) in omega arith
           go false e =
               let q = ltb-false k 16 e in
               let n = m .sixteen in
               let h : length (p .used) ≤ k = omega arith in
               let z : getD (p .used) k 0 ≡ 0 = List·getD-eq-default (p .used) 0 h in
               omega arith
+
+  -- and is valid for whoever receives it
+  module _ (seat : serves (s .net .bits) me ≡ true) (behind : usedAt s me ≤ s .number) (begun : Begun s) where
+    pub made-valid : (p : Proposal) → MadeBetween s u p → (j : ℕ) → receives p j ≡ true → Valid me j p
+    unfolding receives
+    made-valid p m j r =
+        let a = m .start in
+        let a1 = a .1 in
+        let b = m .number in
+        let c = wf .start in
+        let d = wf .number in
+        record {
+          sender = m .sender ∙ own;
+          kind = m .kind;
+          start = (a .0 begun, omega arith);
+          number = (omega arith, omega arith);
+          used = used-within p m;
+          seat = rw (m .members) seat;
+          to-seat = and-l (serves (p .members .bits) j) _ r;
+          stray = λ o l e. m .used o l ∙ rw (← (m .members), e);
+          used-below = made-below s u me lt behind p m;
+          fits = made-fits p m;
+        }

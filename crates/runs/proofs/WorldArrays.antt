@@ -1,8 +1,7 @@
 -- The world and the arrays: what the arrays say of the offices of F is so in the world.
-use mathlib.Core.Path.{_≡_, sym, ap, subst, refl, _∙_}
+use mathlib.Core.Path.{_≡_, sym, ap, refl, _∙_}
 use mathlib.Core.Bool.{Bool, true}
-use mathlib.Core.Logic.{_⊎_, inl, inr, ⊎-elim}
-use mathlib.Core.List.{List, [], _∷_, _++_, List·Memᴰ, List·Memᴰ·cases-cons}
+use mathlib.Core.List.{List, [], _∷_, _++_}
 use Prim.Native.Nat.{ℕ, _+_, _^_, _≤_, _<_}
 use native.Mathlib.Omega.{arith}
 use Rattle.laws.specs.Lists.{Every, none, more}
@@ -11,13 +10,13 @@ use Rattle.laws.proofs.Fin.{if-cases}
 use Rattle.laws.specs.Upd.{upd}
 use Rattle.laws.proofs.Upd.{upd-cases}
 use Rattle.records.specs.declared.Proposal.{Proposal}
-use Rattle.rules.specs.State.{State, usedFor}
+use Rattle.rules.specs.State.{State}
 use Rattle.rules.specs.Rules.{Written, notice, proposal, view, Outcome, receives}
 use Rattle.rules.specs.Leaving.{ownNumber}
 use Rattle.rules.specs.Refusals.{wellFormed, Result, accepted}
 use Rattle.runs.specs.World.{Item, World, SentRecord, viewsIn, mail, logged, answered, withLink, idle}
 use Rattle.runs.proofs.Arrays.{Offices, FromF, shows}
-use Rattle.runs.specs.Begins.{InF, HasSent}
+use Rattle.runs.specs.Begins.{InF}
 use Rattle.laws.proofs.Grid.{upd2-cases}
 use Rattle.runs.proofs.StateArrays.{Sim}
 use Rattle.runs.proofs.RulesArrays.{Same, Moved, views-logged}
@@ -49,32 +48,6 @@ mail-stamped t j (proposal p ∷ ws) =
     let lt : t < t + 1 = omega arith in
     if-cases (Every (λ x. x .sent < t + 1)) (receives p j) _ _ (λ b. more lt r) (λ b. r)
 
--- a proposal of a log after an answer: of the answer, or of the log before
-abbrev Entry : Proposal → ℕ → SentRecord
-Entry p c = record { what = proposal p; clock = c }
-
-in-rest : {P : Type 0} {x y : SentRecord} {l : List SentRecord} → (x ≡ y → P) → P ⊎ List·Memᴰ x (y ∷ l)
-    → P ⊎ List·Memᴰ x l
-in-rest f (inl q) = inl q
-in-rest f (inr m) = ⊎-elim (λ e. inl (f e)) (λ k. inr k) (List·Memᴰ·cases-cons m)
-
-in-log : {P : Proposal → Type 0} {p : Proposal} {c : ℕ} (t : ℕ) (ws : List Written) (l : List SentRecord)
-    → EachProposal P ws
-    → List·Memᴰ (Entry p c) (logged t ws l) → P p ⊎ List·Memᴰ (Entry p c) l
-in-log t [] l none h = inr h
-in-log {P} {p} {c} t (notice n ∷ ws) l (more a-notice e) h =
-    in-rest (λ q. let k : proposal p ≡ notice n = ap (λ (x : SentRecord). x .what) q in
-    let z : _≡_ {A = ℕ} 0 1 = cc in absurd (omega arith))
-    (in-log t ws (record { what = notice n; clock = t } ∷ l) e h)
-in-log {P} {p} {c} t (view v ∷ ws) l (more a-view e) h =
-    in-rest (λ q. let k : proposal p ≡ view v = ap (λ (x : SentRecord). x .what) q in let z : _≡_ {A = ℕ} 0 1 = cc in
-    absurd (omega arith))
-    (in-log t ws (record { what = view v; clock = t } ∷ l) e h)
-in-log {P} {p} {c} t (proposal r ∷ ws) l (more (a-proposal y) e) h =
-    in-rest (λ q. let k : proposal p ≡ proposal r = ap (λ (x : SentRecord). x .what) q in let z : r ≡ p = cc in
-    subst P z y)
-    (in-log t ws (Entry r t ∷ l) e h)
-
 -- what holds of all that is logged holds of what was sent and of what was logged before
 pub logged-every : (P : Written → Type 0) (t : ℕ) (ws : List Written) (l : List SentRecord)
     → Every (λ x. P (x .what)) (logged t ws l)
@@ -93,7 +66,6 @@ module _ (F : ℕ → Bool) where
     pub valid : (i j : ℕ) → FromF F i j → Every (λ x. Valid i j (x .proposal)) (w .link i j)
     pub stamped : (i j : ℕ) → FromF F i j → Every (λ x. x .sent < w .clock) (w .link i j)
     pub named : (o j : ℕ) → o < 16 → j < 16 → Every (λ x. x .proposal .sender ≡ o) (w .link o j)
-    pub below : (i : ℕ) → InF F i → (p : Proposal) → HasSent w i p → usedFor p i < p .number
     -- what is not below the numbers given out is not below the largest that left
     pub tops : (i : ℕ) → InF F i → (m : ℕ) → Every (λ x. ownNumber (x .what) ≤ m) (w .log i) → g .top i ≤ m
 
@@ -114,7 +86,6 @@ module _ (F : ℕ → Bool) where
     valid = s .valid;
     stamped = s .stamped;
     named = s .named;
-    below = s .below;
     tops = s .tops;
   }
 
@@ -144,7 +115,6 @@ module _ (F : ℕ → Bool) where
   -- what the world must know of the proposals that office me sends
   pub record Sends (me : ℕ) (ws : List Written) : Type 0 where
     pub valid : EachProposal (λ p. (j : ℕ) → receives p j ≡ true → Valid me j p) ws
-    pub below : EachProposal (λ p. usedFor p me < p .number) ws
     pub names : EachProposal (λ p. p .sender ≡ me) ws
 
   -- what the world must know of the answer of office me
@@ -152,7 +122,6 @@ module _ (F : ℕ → Bool) where
     pub is-good : Good (o .state)
     pub own : o .state .own ≡ me
     pub sends : EachProposal (λ p. (j : ℕ) → receives p j ≡ true → Valid me j p) (o .written)
-    pub below : EachProposal (λ p. usedFor p me < p .number) (o .written)
     pub names : EachProposal (λ p. p .sender ≡ me) (o .written)
 
   module _ (w : World) (g k : Offices) (me : ℕ) (o : Outcome) (s : Seen me w g) (a : GoodAnswer me o) where
@@ -192,11 +161,6 @@ module _ (F : ℕ → Bool) where
           (every-map (λ x e. omega arith) (s .stamped i j b)) (mail-stamped (w .clock) j (o .written));
       named = λ i j b c. row-all (λ i j x. x .proposal .sender ≡ i) i j (s .named i j b c)
           (mail-all (λ p. p .sender ≡ me) (w .clock) j (o .written) (each-map (λ p e f. e) (a .names)));
-      below = λ i b p h. upd-cases (λ (i : ℕ) (l : List SentRecord). InF F i → List·Memᴰ (Entry p (h .0)) l
-          → usedFor p i < p .number)
-          (w .log) me _ i (λ b h. ⊎-elim (λ e. e) (λ e. s .below me b p (_, e))
-          (in-log (w .clock) (o .written) (w .log me) (a .below) h)) (λ n b h. s .below i b p (_, h))
-          b (h .1);
       tops = λ i b n. upd-cases (λ (i : ℕ) (l : List SentRecord). InF F i → Every (λ x. ownNumber (x .what) ≤ n) l
           → k .top i ≤ n) (w .log) me _ i
           (λ b e. let x = logged-every (λ w. ownNumber w ≤ n) (w .clock) (o .written) (w .log me) e in
@@ -224,7 +188,6 @@ module _ (F : ℕ → Bool) where
     valid = λ a b p. place (λ a b x. Valid a b (x .proposal)) a b (s .valid a b p);
     stamped = λ a b p. place (λ a b x. x .sent < w .clock) a b (s .stamped a b p);
     named = λ a b p q. place (λ a b x. x .proposal .sender ≡ a) a b (s .named a b p q);
-    below = s .below;
     tops = λ a b m e. rw (ap (λ f. f a) (k .same-top)) (s .tops a b m e);
   }
     where
@@ -246,7 +209,6 @@ module _ (F : ℕ → Bool) where
     valid = s .valid;
     stamped = λ i j b. every-map (λ x e. omega arith) (s .stamped i j b);
     named = s .named;
-    below = s .below;
     tops = s .tops;
   }
 
@@ -276,9 +238,6 @@ module _ (F : ℕ → Bool) where
         (λ b. every-append (s .named o j b c)
         (mail-all (λ p. p .sender ≡ o) (w .clock) j (r .written) (each-map (λ p e f. e) e)))
         (λ m b. s .named i j b c) b;
-    below = λ i b p h. upd-cases (λ (i : ℕ) (l : List SentRecord). InF F i → List·Memᴰ (Entry p (h .0)) l
-        → usedFor p i < p .number)
-        (w .log) o _ i (λ b. absurd (out b)) (λ n b h. s .below i b p (_, h)) b (h .1);
     tops = λ i b n. upd-cases (λ (i : ℕ) (l : List SentRecord). InF F i → Every (λ x. ownNumber (x .what) ≤ n) l
         → g .top i ≤ n) (w .log) o _ i
         (λ b. absurd (out b)) (λ d b e. s .tops i b n e) b;
@@ -297,6 +256,5 @@ module _ (F : ℕ → Bool) where
     valid = s .valid;
     stamped = s .stamped;
     named = s .named;
-    below = s .below;
     tops = λ a b m e. rw (ap (λ f. f a) u) (s .tops a b m e);
   }

@@ -7,6 +7,7 @@ use Prim.Native.Nat.{ℕ, _≤_, _<_}
 use lib.ListN.{take}
 use Rattle.laws.specs.Lists.{runs, Every}
 use Rattle.seats.specs.Offices.{serves}
+use Rattle.records.specs.Fits.{FitsReport}
 use Rattle.records.specs.Numbers.{limit}
 use Rattle.records.specs.declared.Proposal.{Proposal}
 use Rattle.records.specs.declared.View.{View}
@@ -26,6 +27,11 @@ answerTo s h = takeOf s (h .event) (h .room)
 
 abbrev pub nextState : State → Input → State
 nextState s h = answerTo s h .state
+
+-- the sets handed in are sets of seats, as those of a record that was read are
+abbrev pub OfSeats : Event → Type 0
+OfSeats (aReport r) = FitsReport r
+OfSeats (aProposal p) = Unit {0}
 
 -- an entry of the log: the state before, and what was handed to it; the answer is that of the step
 pub record LogEntry : Type 0 where
