@@ -378,6 +378,9 @@ impl Office {
         if stray {
             return 10;
         }
+        if p.used[sender] >= p.number {
+            return 19;
+        }
         if p.number <= self.accepted[sender] {
             return 11;
         }

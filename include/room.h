@@ -40,9 +40,19 @@ uint8_t room_fresh(uint8_t office, uint32_t *state, size_t words);
 
 /* Hands the record of `length` bytes to a state, which changes in place; what is written stands from the start of `out`,
  * whose length is `room`. The answer is 256 x the bytes written + the refusal or 0:
- *   answer % 256  0 where the record is accepted, or the first that applies of 2 to 13: 2 where `words` is not
- *                 ROOM_STATE_WORDS or the words are no state, 3 where `room` is under 182, 4 and 5 as above, 6 to 13 as the
- *                 room server's rules number them
+ *   answer % 256  2   `words` is not ROOM_STATE_WORDS, or the words are no state
+ *                 3   `room` is under 182
+ *                 4   or 5, as room_record_check answers
+ *                 6   a proposal's sender is above 15 or is this office
+ *                 7   its kind is not 1 or 2
+ *                 8   its start number or proposal number is 0 or above L, 2,000,000,000, or a used number is above L
+ *                 9   its members hold no seat of the sender or no seat of this office
+ *                 10  it has a used number that is not 0 for an office without a seat in the members
+ *                 19  its used number for the sender is not below its proposal number
+ *                 11  its proposal number is not above the last accepted from this sender
+ *                 12  its used number for this office is above this office's proposal number
+ *                 13  the event would make a number above L
+ *                 0   none of these: the record is accepted; the first that applies is returned
  *   answer / 256  the bytes written, at most 182; 0 where the record is refused
  * Where the record is refused, no word of the state and no byte of the output is touched. Where it is accepted, no byte after
  * those written is. A report that leaves the net view equal to what it was is accepted and does nothing: 0 bytes, and no word

@@ -32,10 +32,12 @@
 enum { NET = 2, START = 86, NUMBER = 87, VIEW_NUMBER = 88, ACCEPTED = 105 };
 
 /* What a child does wrong. */
-enum wrong { NOTHING, RECORD_FIRST, NINE_BYTES, ONCE, OWN_NUMBERS, OLD_MARK, APPENDS, FRESH };
+enum wrong { NOTHING, RECORD_FIRST, NINE_BYTES, ONCE, OWN_NUMBERS, OLD_MARK, APPENDS, FRESH, OWN_USED };
 
 /* What every round is held to. */
-enum check { ENDS, WHOLE, RESTARTS, BEGINS, BELOW, MARKS, PROPOSALS, NOTICES, VIEWS, HEARD, CEILING, CHECKS };
+enum check {
+    ENDS, WHOLE, RESTARTS, BEGINS, BELOW, MARKS, PROPOSALS, SELF_USES, NOTICES, VIEWS, HEARD, CEILING, CHECKS
+};
 
 static const char *const check_names[CHECKS] = {
     "a child ends by SIGKILL and nothing else",
@@ -45,6 +47,7 @@ static const char *const check_names[CHECKS] = {
     "every number that left is at most the last mark",
     "the marks are those that the records which left ask for, and at most one more",
     "proposal numbers rise over all rounds of a file",
+    "no proposal claims to have used itself, and none gets 19",
     "start numbers of notices rise over all rounds of a file",
     "view numbers rise over all rounds of a file",
     "the seats of the office accept every notice and view",
@@ -79,7 +82,8 @@ struct note {
     uint16_t answers[4]; /* whole answers with so many marks, */
     uint16_t twice;      /* with a notice and two proposals, */
     uint16_t viewed;     /* with a notice, a proposal and a view */
-    uint16_t refused;    /* events answered by 13 */
+    uint16_t refused;    /* events answered by 13, */
+    uint16_t self_uses;  /* and by 19, though the used number for the sender is below the proposal's own */
 };
 
 static char directory[PATH_MAX], path[PATH_MAX + 8];
@@ -172,11 +176,16 @@ static uint32_t own_number(const uint8_t *record) {
 /* A record leaves by one write, under PIPE_BUF and so whole; before it, its mark. */
 static void leave(struct child *c, const uint8_t *record, size_t size, const uint8_t *mark, bool more) {
     size_t before = c->plan->wrong == RECORD_FIRST ? 0 : c->plan->wrong == NINE_BYTES ? 9 : ROOM_MARK_BYTES;
+    uint8_t sent[84];
+    memcpy(sent, record, size);
+    if (c->plan->wrong == OWN_USED && size == 84) {
+        memcpy(sent + 20 + 4 * c->office, sent + 16, 4);
+    }
     if (mark != NULL) {
         c->note.nth++;
         keep(c, mark, 0, before);
     }
-    if (write(c->pipe, record, size) != (ssize_t)size) {
+    if (write(c->pipe, sent, size) != (ssize_t)size) {
         give_up();
     }
     acted(c, more ? BETWEEN : AFTER_ANSWER);
@@ -216,6 +225,7 @@ static void hand(struct child *c, const uint8_t *record, size_t length) {
     uint8_t out[ROOM];
     uint32_t answer = room_step(c->state, ROOM_STATE_WORDS, record, length, out, sizeof out);
     c->note.refused += answer % 256 == 13;
+    c->note.self_uses += answer % 256 == 19;
     if (answer / 256 > 0) {
         send_answer(c, out, answer / 256);
     }
@@ -389,6 +399,7 @@ static struct {
     unsigned long torn[ROOM_MARK_BYTES], empty, thousand;
     unsigned long cuts[CUTS], nth[4], mixed;
     unsigned long answers[4], twice, viewed, foreign;
+    unsigned long proposals, just_below;
     unsigned long ended, full;
 } seen;
 
@@ -496,6 +507,26 @@ static void judge_mark(struct run *run, uint32_t largest) {
     }
 }
 
+/* Rounds that are the same in every run, of children that do nothing wrong. */
+static bool is_counted(const struct plan *plan) { return plan->wrong == NOTHING && plan->actions > 0; }
+
+/* A fresh office of the members, another than the sender, is handed the proposal: 19 comes before all that depends on
+ * its state. */
+static void judge_self_use(struct run *run, const uint8_t *proposal, uint32_t number) {
+    uint32_t state[ROOM_STATE_WORDS], used = (uint32_t)get(proposal + 20 + 4 * run->office, 4);
+    uint8_t out[ROOM], other = 0;
+    while (other < 15 && (other == run->office || (get(proposal + 4, 8) & seats_of(other)) == 0)) {
+        other++;
+    }
+    uint8_t made = room_fresh(other, state, ROOM_STATE_WORDS);
+    uint32_t refusal = room_step(state, ROOM_STATE_WORDS, proposal, 84, out, sizeof out) % 256;
+    if (used >= number || made != 0 || (refusal != 0 && refusal != 12)) {
+        fault(run, SELF_USES, used, number);
+    }
+    seen.proposals += is_counted(run->plan);
+    seen.just_below += is_counted(run->plan) && used + 1 == number;
+}
+
 static void judge_record(struct run *run, const uint8_t *record, size_t size) {
     bool proposal = memcmp(record, "PR", 2) == 0, view = memcmp(record, "VW", 2) == 0;
     uint32_t own = (uint32_t)get(record + (proposal ? 16 : 2), 4), largest = own;
@@ -509,6 +540,7 @@ static void judge_record(struct run *run, const uint8_t *record, size_t size) {
     judge_mark(run, largest);
     if (proposal) {
         rises(run, PROPOSALS, &run->proposal, own);
+        judge_self_use(run, record, own);
     } else {
         rises(run, view ? VIEWS : NOTICES, view ? &run->view : &run->start, own);
         hear(run, record, size);
@@ -556,6 +588,9 @@ static void judge_pipe(struct run *run, const uint8_t *bytes, size_t length, boo
         }
         if (note) {
             memcpy(&run->note, r, noted);
+            if (run->note.self_uses > 0) {
+                fault(run, SELF_USES, run->note.self_uses, 0);
+            }
         } else {
             judge_record(run, r, size);
         }
@@ -658,7 +693,7 @@ static void count_restart(const struct run *run) {
 /* The rounds of a file until it is over. */
 static void play_file(struct run *run) {
     const struct plan *plan = run->plan;
-    bool counted = plan->wrong == NOTHING && plan->actions > 0;
+    bool counted = is_counted(plan);
     begin_file(run);
     while (run->rounds < plan->rounds && !run->over && !found(run)) {
         run->torn += run->length % ROOM_MARK_BYTES > 0;
@@ -706,6 +741,7 @@ static const struct plan wrong[] = {
     {"a child that forgets the mark it has put", 3000000, 60, 1000, 0, OLD_MARK, RESTARTS},
     {"a child that puts a mark behind an unfinished one", 3000000, 60, 1000, 0, APPENDS, RESTARTS},
     {"a child that begins again at the fresh state", 3000000, 60, 1000, 0, FRESH, NOTICES},
+    {"a child that sends its own new number as already used", 3000000, 60, 1000, 0, OWN_USED, SELF_USES},
 };
 
 static void play_right(void) {
@@ -764,6 +800,9 @@ static void judge_counts(void) {
     came(seen.twice, "answers", "with a notice and two proposals");
     came(seen.viewed, "answers", "with a notice, a proposal and a view");
     came(seen.foreign, "marks", "that a used number alone calls for");
+    came(seen.just_below, "proposals", "whose used number for the sender is just below their own");
+    printf("proposals: %lu\n", seen.proposals);
+    verdict(seen.proposals >= 10000, "10,000 proposals in rounds that are the same in every run");
     came(seen.ended, "files", "that end at L");
     came(seen.full, "files", "that end at L with 2,000 marks");
 }

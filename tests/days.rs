@@ -1,8 +1,9 @@
-// The worked days that document 01 does not star, the reports that change nothing, the edges of lengths and offices, the order of the refusals,
-// and where document 01 decides against Moshe, by the calls for C. A try is one call: its refusal, its count, every byte of the output, and where
-// it is refused or does nothing every word of the state. What is expected is written from documents 01 and 02; unwritten bytes are 170, as they
-// were lent. Then a seat's own day and its refusals: a try is one record heard, its answer and the four words of the seat after it. Worked sheets
-// come last.
+// The worked days that document 01 does not star, the reports that change nothing, the proposals that claim to have
+// used themselves, the edges of lengths and offices, the order of the refusals, and where document 01 decides against
+// Moshe, by the calls for C. A try is one call: its refusal, its count, every byte of the output, and where it is
+// refused or does nothing every word of the state. What is expected is written from documents 01 and 02; unwritten
+// bytes are 170, as they were lent. Then a seat's own day and its refusals: a try is one record heard, its answer and
+// the four words of the seat after it. Worked sheets come last.
 #[path = "common/sheet_calls.rs"]
 mod sheet_calls;
 #[path = "common/worked_sheets.rs"]
@@ -77,9 +78,9 @@ fn own(kind: u8, start: u32, number: u32, used_0: u32, used_1: u32) -> Vec<u8> {
     bytes(Proposal { sender: 0, kind, members: 0x11, start, number, used: [used_0, used_1, 0] })
 }
 
-// With number L and used numbers for offices 0 and 2: wrong in more than one way.
-fn wrong(sender: u8, kind: u8, members: u64, start: u32, used_0: u32, used_2: u32) -> Vec<u8> {
-    bytes(Proposal { sender, kind, members, start, number: L, used: [used_0, 0, used_2] })
+// With number L: wrong in more than one way.
+fn wrong(sender: u8, kind: u8, members: u64, start: u32, used: [u32; 3]) -> Vec<u8> {
+    bytes(Proposal { sender, kind, members, start, number: L, used })
 }
 
 // The answer of one call: refusal, count, and the output after it.
@@ -322,15 +323,89 @@ fn order(t: &mut Tally) {
     t.refused("4 before 5", fresh(), b"??", 4);
     t.refused("5 before 6", fresh(), b"PR\x10\x00", 5);
     let heard = || after(after_b(), p(FAST, 1, L, 0, 0));
-    t.refused("6 before 7", heard(), &wrong(0, 0, 0x01, 0, 9, L + 1), 6);
-    t.refused("7 before 8", heard(), &wrong(1, 0, 0x01, 0, 9, L + 1), 7);
-    t.refused("8 before 9", heard(), &wrong(1, SLOW, 0x01, 0, 9, L + 1), 8);
-    t.refused("8 for a used number above L", heard(), &wrong(1, SLOW, 0x01, 1, 9, L + 1), 8);
-    t.refused("9 before 10", heard(), &wrong(1, SLOW, 0x01, 1, 9, 1), 9);
-    t.refused("10 before 11", heard(), &wrong(1, SLOW, 0x11, 1, 9, 1), 10);
-    t.refused("11 before 12", heard(), &wrong(1, SLOW, 0x11, 1, 9, 0), 11);
-    t.refused("12 before 13", after_b(), &wrong(1, SLOW, 0x11, 1, 9, 0), 12);
-    t.refused("13 comes last", after_b(), &wrong(1, FAST, 0x11, 1, 2, 0), 13);
+    t.refused("6 before 7", heard(), &wrong(0, 0, 0x10, 0, [L, L, L + 1]), 6);
+    t.refused("7 before 8", heard(), &wrong(1, 0, 0x01, 0, [9, L, L + 1]), 7);
+    t.refused("8 before 9", heard(), &wrong(1, SLOW, 0x01, 0, [9, L, L + 1]), 8);
+    t.refused("8 for a used number above L", heard(), &wrong(1, SLOW, 0x01, 1, [9, L, L + 1]), 8);
+    t.refused("9 before 10", heard(), &wrong(1, SLOW, 0x01, 1, [9, L, 1]), 9);
+    t.refused("10 before 19", heard(), &wrong(1, SLOW, 0x11, 1, [9, L, 1]), 10);
+    t.refused("19 before 11", heard(), &wrong(1, SLOW, 0x11, 1, [9, L, 0]), 19);
+    t.refused("11 before 12", heard(), &wrong(1, SLOW, 0x11, 1, [9, L - 1, 0]), 11);
+    // a fast proposal with start number L makes view L + 1
+    t.refused("12 before 13", after_b(), &wrong(1, FAST, 0x11, L, [9, L - 1, 0]), 12);
+    t.refused("13 comes last", after_b(), &wrong(1, FAST, 0x11, 1, [2, L - 1, 0]), 13);
+}
+
+// The used number for the sender, office 1, about the proposal's own number. After C its last number is 1; the own
+// number of office 0 is 2 after B and after C.
+fn self_uses(t: &mut Tally) {
+    let slow_3 = || [notice(3, 0x11), own(SLOW, 3, 3, 2, 1)].concat();
+    t.accepted("number 1 and used number 0 (day C)", after_b(), p(FAST, 1, 1, 0, 0), view(3, 0x11, 2, 1));
+    t.refused("number 1 and used number 1", after_b(), &p(FAST, 1, 1, 0, 1), 19);
+    t.refused("number 1 and used number 2", after_b(), &p(FAST, 1, 1, 0, 2), 19);
+    t.refused("number 1 and used number L", after_b(), &p(FAST, 1, 1, 0, L), 19);
+    t.accepted("number 2 and used number 1 (day E)", after_c(), p(FAST, 3, 2, 2, 1), slow_3());
+    t.refused("number 2 and used number 2", after_c(), &p(FAST, 3, 2, 2, 2), 19);
+    t.refused("number 2 and used number 3", after_c(), &p(FAST, 3, 2, 2, 3), 19);
+    t.accepted("number 2 and used number 1, slow", after_c(), p(SLOW, 3, 2, 2, 1), slow_3());
+    t.refused("number 2 and used number 2, slow", after_c(), &p(SLOW, 3, 2, 2, 2), 19);
+    t.accepted("number 65,536 and used number 65,535", fresh(), p(SLOW, 1, 65_536, 0, 65_535), vec![]);
+    t.refused("number 65,535 and used number 65,536", fresh(), &p(SLOW, 1, 65_535, 0, 65_536), 19);
+    t.accepted("number L and used number L - 1, fresh", fresh(), p(FAST, 1, L, 0, L - 1), vec![]);
+    t.refused("number L and used number L, fresh", fresh(), &p(FAST, 1, L, 0, L), 19);
+    t.refused("number L - 1 and used number L, fresh", fresh(), &p(FAST, 1, L - 1, 0, L), 19);
+    t.refused("number 1 and used number 1, fresh", fresh(), &p(FAST, 1, 1, 0, 1), 19);
+    t.refused("a claim on members other than the net view", after_a(), &p(FAST, 1, 5, 0, 5), 19);
+    t.refused("after G, in mode slow and with a proposal stored", after_g(), &p(FAST, 4, 4, 3, 4), 19);
+}
+
+// What other offices' used numbers say is no claim.
+fn no_self_uses(t: &mut Tally) {
+    t.accepted("the number as the used number for office 0", after_b(), p(FAST, 1, 1, 1, 0), view(3, 0x11, 2, 1));
+    t.accepted("more than the number for office 0, its own", after_b(), p(FAST, 1, 1, 2, 0), own(SLOW, 2, 3, 1, 0));
+    t.refused("more than the number for office 0, above its own: 12 (day H)", after_b(), &p(FAST, 1, 1, 3, 0), 12);
+    let of_three = |sender, used| bytes(Proposal { sender, kind: FAST, members: 0x111, start: 1, number: 1, used });
+    t.accepted("office 1, the number for office 2", after_b(), of_three(1, [0, 0, 1]), vec![]);
+    t.accepted("office 1, more for office 2", after_b(), of_three(1, [0, 0, L]), vec![]);
+    t.refused("office 1, the number for itself", after_b(), &of_three(1, [0, 1, 0]), 19);
+    t.accepted("office 2, the number for office 1", after_b(), of_three(2, [0, 1, 0]), vec![]);
+    t.refused("office 2, the number for itself", after_b(), &of_three(2, [0, 0, 1]), 19);
+    t.refused("at office 1: office 0, the number for itself", made(1, WORDS).1, &own(FAST, 1, 1, 1, 0), 19);
+    t.refused("at office 1: office 0, the number for office 1: 12", made(1, WORDS).1, &own(FAST, 1, 1, 0, 1), 12);
+    // the used number for office 15 is the last of the record
+    let members = 1 << 60 | 1;
+    let mut of_last = bytes(Proposal { sender: 15, kind: FAST, members, start: 1, number: 7, used: [0; 3] });
+    of_last[83] = 6;
+    t.accepted("office 15, just below the number for itself", fresh(), of_last.clone(), vec![]);
+    of_last[83] = 7;
+    t.refused("office 15, the number for itself", fresh(), &of_last, 19);
+    let members = 1 << 60 | 0x10;
+    let to_last = |used| bytes(Proposal { sender: 1, kind: FAST, members, start: 1, number: 7, used });
+    t.accepted("at office 15: office 1, just below its number", made(15, WORDS).1, to_last([0, 6, 0]), vec![]);
+    t.refused("at office 15: office 1, its number", made(15, WORDS).1, &to_last([0, 7, 0]), 19);
+}
+
+// Two reasons at once, and no more.
+fn self_uses_in_order(t: &mut Tally) {
+    let seats = |members, used| bytes(Proposal { sender: 1, kind: FAST, members, start: 1, number: 1, used });
+    t.refused("2 before 19", changed(after_b(), NUMBER, L + 1), &p(FAST, 1, 1, 0, 1), 2);
+    t.unchanged("3 before 19", 181, after_b(), &p(FAST, 1, 1, 0, 1), 3);
+    t.refused("5 before 19", after_b(), &[p(FAST, 1, 1, 0, 1), vec![0]].concat(), 5);
+    t.refused("6 before 19", after_b(), &own(FAST, 1, 1, 1, 0), 6);
+    t.refused("7 before 19", after_b(), &p(3, 1, 1, 0, 1), 7);
+    t.refused("8 before 19, start number 0", after_b(), &p(FAST, 0, 1, 0, 1), 8);
+    t.refused("8 before 19, number 0 and used number 0", after_b(), &p(FAST, 1, 0, 0, 0), 8);
+    t.refused("8 before 19, used number L + 1", after_b(), &p(FAST, 1, 1, 0, L + 1), 8);
+    t.refused("8 before 19, number L + 1 and used number L + 1", after_b(), &p(FAST, 1, L + 1, 0, L + 1), 8);
+    t.refused("9 before 19, no seat of office 0", after_b(), &seats(0x10, [0, 1, 0]), 9);
+    t.refused("9 before 10 and 19, no seat of office 1", after_b(), &seats(0x01, [0, 1, 0]), 9);
+    t.refused("10 before 19", after_b(), &seats(0x11, [0, 1, 1]), 10);
+    t.refused("19 before 11", after_c(), &p(FAST, 1, 1, 0, 1), 19);
+    t.refused("19 before 12", after_b(), &p(FAST, 1, 1, 3, 1), 19);
+    t.refused("13 alone, view L + 1", after_b(), &p(FAST, L, 1, 0, 0), 13);
+    t.refused("19 before 13, view L + 1", after_b(), &p(FAST, L, 1, 0, 1), 19);
+    t.refused("13 alone, proposal L + 1", after_b(), &p(FAST, 1, L, 2, L - 1), 13);
+    t.refused("19 before 13, proposal L + 1", after_b(), &p(FAST, 1, L, 2, L), 19);
 }
 
 // A seat's words: itself, its last start number, its last view number, whether a change is open. Seat 0 hears A, B and C, is away, and is back.
@@ -434,6 +509,9 @@ fn main() {
     edges(&mut tally);
     states(&mut tally);
     order(&mut tally);
+    self_uses(&mut tally);
+    no_self_uses(&mut tally);
+    self_uses_in_order(&mut tally);
     seat_day(&mut tally);
     seat_day_without_it(&mut tally);
     seat_edges(&mut tally);

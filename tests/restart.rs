@@ -36,6 +36,9 @@ mod restart_worked;
 #[allow(dead_code)]
 #[path = "common/rows.rs"]
 mod rows;
+#[allow(dead_code)]
+#[path = "common/self_use.rs"]
+mod self_use;
 #[path = "common/tally.rs"]
 mod tally;
 #[path = "common/verdicts.rs"]

@@ -10,11 +10,15 @@ mod play;
 mod random;
 #[path = "common/repeats.rs"]
 mod repeats;
+#[allow(dead_code)]
+#[path = "common/self_use.rs"]
+mod self_use;
 
 use model::{program, report, Office, Proposal, FAST, L, ROOM, SLOW};
-use play::{Habits, Play};
+use play::{used_for_sender, Habits, Play};
 use random::Random;
 use repeats::{Reports, KINDS};
+use self_use::{SelfUses, Sent};
 use std::collections::BTreeMap;
 use std::fmt::Write as _;
 use std::fs::File;
@@ -25,7 +29,8 @@ use std::sync::Mutex;
 
 const THREADS: usize = 2;
 
-// What was reached, by the model: refusals, lengths written at acceptance, views at each office, reports of each kind.
+// What was reached, by the model: refusals, lengths written at acceptance, views at each office, reports of each kind,
+// proposals handed in, those about check 19, and those written.
 #[derive(Clone, Default)]
 struct Reached {
     inputs: usize,
@@ -34,6 +39,9 @@ struct Reached {
     lengths: BTreeMap<usize, usize>,
     views: [usize; 16],
     reports: Reports,
+    proposals: usize,
+    self_uses: SelfUses,
+    sent: Sent,
 }
 
 impl Reached {
@@ -50,6 +58,9 @@ impl Reached {
             self.views[office] += n;
         }
         self.reports.add(&other.reports);
+        self.proposals += other.proposals;
+        self.self_uses.add(&other.self_uses);
+        self.sent.add(&other.sent);
     }
 }
 
@@ -72,6 +83,11 @@ fn expected(input: &[u8], reached: &mut Reached) -> Expected {
             let nothing = line.refusal == 0 && count == 0 && *line.office == before;
             reached.reports.count(&before, line.record, nothing);
         }
+        if line.record.len() == 84 {
+            reached.proposals += 1;
+            reached.self_uses.count(&before, line.record, line.refusal);
+        }
+        reached.sent.count(line.bytes);
         before = *line.office;
         *reached.refusals.entry(line.refusal).or_default() += 1;
         if line.refusal == 0 {
@@ -262,10 +278,11 @@ fn near_the_ceiling(random: &mut Random) -> Vec<u8> {
     let mut play = some_play(random, habits, begun);
     let o = *play.office();
     for sender in model::offices(o.net).filter(|&k| k != o.own) {
-        let mut used = [0; 16];
-        used[sender] = [0, L][random.below(2)];
         let near = |random: &mut Random| [1, L - random.below(3) as u32, L][random.below(3)];
         let (start, number) = (near(random), near(random));
+        let mut used = [0; 16];
+        used[sender] = [0, L][random.below(2)];
+        used[sender] = used_for_sender(random, number, used[sender]);
         let kind = [FAST, SLOW][random.below(2)];
         play.hand(o.own, &Proposal { sender: sender as u8, kind, members: o.net, start, number, used }.bytes());
     }
@@ -408,8 +425,31 @@ fn days_of_repeats() -> Vec<Day> {
     ]
 }
 
+// Proposals that claim to have used themselves, and some beside them that do not. The office goes on as if they had
+// not come.
+fn days_of_self_uses() -> Vec<Day> {
+    let b = vec![report(0x01, 0), report(0x10, 0)];
+    let c = after(&b, p(FAST, 1, 1, 0, 0));
+    let refused = after(&b, p(FAST, 1, 1, 0, 1));
+    let higher = after(&b, p(SLOW, 9, 9, 0, 9));
+    vec![
+        day(&refused, 19, &[]),
+        day(&after(&refused, p(FAST, 1, 1, 0, 0)), 0, &[view(3, 0x11, 2, 1)]),
+        day(&after(&refused, report(0, 0x10)), 0, &[notice(3, 0x01), view(4, 0x01, 3, 0)]),
+        day(&higher, 19, &[]),
+        day(&after(&higher, p(FAST, 1, 1, 0, 0)), 0, &[view(3, 0x11, 2, 1)]),
+        day(&after(&c, p(FAST, 3, 2, 2, 2)), 19, &[]),
+        day(&after(&c, p(FAST, 3, 2, 2, 3)), 19, &[]),
+        day(&after(&c, p(FAST, 1, 1, 0, 1)), 19, &[]),
+        day(&after(&b, p(FAST, 1, 1, 3, 1)), 19, &[]),
+        day(&after(&b, p(FAST, L, 1, 0, 1)), 19, &[]),
+        day(&after(&b, p(FAST, L, 1, 0, 0)), 13, &[]),
+        day(&after(&b, p(FAST, 1, 1, 1, 0)), 0, &[view(3, 0x11, 2, 1)]),
+    ]
+}
+
 fn all_days() -> Vec<Day> {
-    [worked_days(), days_of_repeats()].concat()
+    [worked_days(), days_of_repeats(), days_of_self_uses()].concat()
 }
 
 fn model_on_worked_days() -> bool {
@@ -452,7 +492,7 @@ fn reached(t: &mut Tests) {
     println!("lengths: {:?}", all.lengths);
     println!("views at each office: {:?}", all.views);
     t.check("20,000 inputs", all.inputs >= 20_000);
-    for refusal in (0..14).filter(|n| ![2, 3].contains(n)) {
+    for refusal in [0, 1, 4, 5, 6, 7, 8, 9, 10, 11, 12, 13, 19] {
         t.check(&format!("refusal {refusal} reached"), all.refusals.contains_key(&refusal));
     }
     for length in [0, 78, 84, 92, 98, 162, 176, 182] {
@@ -467,6 +507,22 @@ fn reached(t: &mut Tests) {
         println!("{kind}: {n}");
         t.check(kind, n > 0);
     }
+    self_uses_reached(t);
+}
+
+fn self_uses_reached(t: &mut Tests) {
+    let Reached { proposals, self_uses, sent, .. } = t.all.clone();
+    println!("{proposals} proposals handed in, {} written", sent.proposals);
+    println!("written, the used number for the sender just below the proposal's own: {}", sent.just_below);
+    let none = sent.proposals >= 100_000 && sent.just_below >= 10_000 && sent.self_uses == 0;
+    t.check("no proposal that an office wrote claims to have used itself", none);
+    t.check("each proposal is answered by the first reason that applies", self_uses.agree);
+    for (kind, n) in self_use::KINDS.iter().zip(self_uses.kinds) {
+        println!("{kind}: {n}");
+        t.check(kind, n > 0);
+    }
+    let all = self_uses.senders.iter().chain(&self_uses.offices).flatten();
+    t.check("19 and what is just below it, of every sender and at every office", all.min() > Some(&0));
 }
 
 fn main() {
@@ -486,10 +542,15 @@ fn main() {
         let all = report(u64::MAX, 0);
         [&[k as u8][..], &all, &all].concat()
     });
+    let before = t.all.clone();
     t.case("plays", 7000, Way::File, |r, _| {
         let records = 1 + r.below(100);
         a_play(r, calm, records)
     });
+    // nothing is forged there: offices hand each other only what they sent
+    let handed = t.all.proposals - before.proposals;
+    println!("plays: {handed} proposals handed in");
+    t.check("plays: no proposal gets 19", handed >= 50_000 && t.all.refusals.get(&19) == before.refusals.get(&19));
     t.case("plays with forged proposals", 5000, Way::File, |r, _| {
         let records = 1 + r.below(50);
         a_play(r, forging, records)

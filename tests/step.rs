@@ -15,17 +15,31 @@ mod random;
 #[allow(dead_code)]
 #[path = "common/repeats.rs"]
 mod repeats;
+#[allow(dead_code)]
+#[path = "common/restart_calls.rs"]
+mod restart_calls;
 #[path = "common/rows.rs"]
 mod rows;
+#[allow(dead_code)]
+#[path = "common/self_use.rs"]
+mod self_use;
+#[path = "common/self_use_inputs.rs"]
+mod self_use_inputs;
+#[path = "common/sixteen.rs"]
+mod sixteen;
 #[path = "common/verdicts.rs"]
 mod verdicts;
 
 use inputs::{a_play, change, some};
 use lent::{AROUND, BYTE, WORD};
 use model::{offices, report, Proposal, FAST, L, ROOM, SLOW};
+use play::used_for_sender;
 use random::Random;
 use repeats::{repeat, Reports, KINDS};
 use rows::WORDS;
+use self_use::{SelfUses, Sent};
+use self_use_inputs::{Asked, FAULTS, RELATIONS};
+use sixteen::{Met, Sixteen};
 use verdicts::Verdicts;
 
 #[link(name = "room", kind = "static")]
@@ -34,8 +48,17 @@ extern "C" {
     fn room_step(state: *mut u32, words: usize, record: *const u8, length: usize, out: *mut u8, room: usize) -> u32;
 }
 
-// Each refusal, and 0, as often as it came.
-struct Reached([u64; 14]);
+// The answers that can come; 1 is for a state that is made.
+const ANSWERS: [usize; 14] = [0, 2, 3, 4, 5, 6, 7, 8, 9, 10, 11, 12, 13, 19];
+
+// What was met, by the model: each answer, and what the proposals said of themselves.
+#[derive(Default)]
+struct Reached {
+    answers: [u64; 20],
+    self_uses: SelfUses,
+    // a proposal that claims to have used itself, answered 2, and answered 3 where nothing else is wrong with it
+    early: [u64; 2],
+}
 
 struct Compared<'a> {
     row: Vec<u32>,
@@ -72,7 +95,7 @@ impl Compared<'_> {
             && self.out[..AROUND].iter().chain(&self.out[end..]).all(|&b| b == BYTE);
         let same = got == answer && self.row == self.expected && bytes && record == kept;
         self.inputs += 1;
-        self.reached.0[refusal.min(13) as usize] += 1;
+        self.reached.answers[refusal as usize] += 1;
         if !same {
             self.wrong += 1;
             if self.wrong <= 5 {
@@ -85,12 +108,28 @@ impl Compared<'_> {
         refusal
     }
 
-    // What kind of report came, by the model, before the row changes.
+    // What kind of record came, by the model, before the row changes.
     fn count(&mut self, record: &[u8], refusal: u8) {
         if record.len() == 18 && [0, 13].contains(&refusal) {
             let nothing = refusal == 0 && self.written.is_empty() && self.expected == self.row;
             let office = rows::read(self.words()).unwrap();
             self.reports.count(&office, record, nothing);
+        }
+        if record.len() == 84 && record.starts_with(b"PR") {
+            self.count_proposal(record, refusal);
+        }
+    }
+
+    fn count_proposal(&mut self, record: &[u8], refusal: u8) {
+        let p = Proposal::read(record);
+        let self_uses = p.used.get(p.sender as usize).is_some_and(|&used| used >= p.number);
+        match (refusal, rows::read(self.words())) {
+            (2, _) => self.reached.early[0] += self_uses as u64,
+            (3, Some(mut office)) => {
+                let answer = office.step(record, ROOM, &mut Vec::new());
+                self.reached.early[1] += (answer == 19) as u64;
+            }
+            (_, office) => self.reached.self_uses.count(&office.unwrap(), record, refusal),
         }
     }
 
@@ -102,6 +141,10 @@ impl Compared<'_> {
         self.lend(&kept);
         self.reports.last = last;
         refusal
+    }
+
+    fn ask(&mut self, asked: Asked) {
+        self.aside(&asked.row, &asked.p.bytes(), asked.room);
     }
 
     // A fresh office: it has had no report.
@@ -165,6 +208,40 @@ impl Tally {
         println!("  {what}: {}", reports.at_ceiling);
         self.verdicts.check(&format!("{name}: {what}"), reports.at_ceiling > 0);
     }
+
+    fn often(&mut self, what: &str, n: u64, least: u64) {
+        println!("  {what}: {n}");
+        self.verdicts.check(&format!("{what}: at least {least}"), n >= least);
+    }
+
+    // What offices that follow the rules sent.
+    fn met_sent(&mut self, name: &str, sent: &Sent, least: u64) {
+        self.often(&format!("{name}: proposals sent"), sent.proposals, least);
+        self.often(&format!("{name}: their used number for the sender just below"), sent.just_below, least / 10);
+        self.verdicts.check(&format!("{name}: none claims to have used itself"), sent.self_uses == 0);
+    }
+
+    // Each kind of proposal about check 19, at every office and of every sender.
+    fn met_self_uses(&mut self) {
+        let SelfUses { kinds, senders, offices, bits, agree } = self.reached.self_uses.clone();
+        self.verdicts.check("each proposal is answered by the first reason that applies", agree);
+        for (kind, n) in self_use::KINDS.iter().zip(kinds) {
+            self.often(kind, n, 100);
+        }
+        let [two, three] = self.reached.early;
+        self.often("2 where 19 applies too", two, 100);
+        self.often("3 where 19 alone applies too", three, 100);
+        let said = ["19 alone", "accepted, the used number just below"];
+        for (at, what) in said.into_iter().enumerate() {
+            let least = |all: &[[u64; 2]]| all.iter().map(|n| n[at]).min().unwrap();
+            self.often(&format!("{what}, of the sender with fewest"), least(&senders), 300);
+            self.often(&format!("{what}, of the office with fewest"), least(&offices), 300);
+        }
+        for (at, what) in ["19 alone", "accepted"].into_iter().enumerate() {
+            let least = bits.iter().map(|n| n[at]).min().unwrap();
+            self.often(&format!("{what}, a single bit apart, of the bit with fewest"), least, 20);
+        }
+    }
 }
 
 fn net_view(row: &[u32]) -> u64 {
@@ -188,6 +265,7 @@ fn some_record(random: &mut Random, row: &[u32], last: &[u8], of_play: &[u8]) ->
             for k in offices(members) {
                 used[k] = some(random, &[0, row[rows::NUMBER], 1]);
             }
+            used[sender] = used_for_sender(random, number, used[sender]);
             Proposal { sender: sender as u8, kind: some(random, &[FAST, SLOW]), members, start, number, used }.bytes()
         }
     }
@@ -211,6 +289,7 @@ fn making() -> bool {
 
 fn plays(t: &mut Tally) {
     let name = "the records of plays";
+    let mut sent = Sent::default();
     let met = t.case(name, |c| {
         let mut r = Random(0x9e37_79b9_7f4a_7c15);
         for _ in 0..800 {
@@ -218,11 +297,13 @@ fn plays(t: &mut Tally) {
             c.fresh(own);
             for record in &records {
                 c.hand(record, ROOM);
+                sent.count(&c.written);
             }
         }
     });
     t.verdicts.check("half a million records", t.inputs >= 500_000);
     t.met(name, &met);
+    t.met_sent(name, &sent, 50_000);
 }
 
 fn changed_rows(t: &mut Tally) {
@@ -285,7 +366,13 @@ fn lengths(t: &mut Tally) {
         }
         let row = c.words().to_vec();
         let repeats: Vec<_> = (0..6).map(|_| repeat(&mut r, net_view(&row), &c.reports.last)).collect();
-        for record in records[50..].iter().chain(&repeats) {
+        // equal to the proposal's own number, and above
+        let self_uses = [0, 1].map(|more| {
+            let asked = Asked::sound(&mut r, &row);
+            let used = asked.p.number + more;
+            asked.using(used).p.bytes()
+        });
+        for record in records[50..].iter().chain(&repeats).chain(&self_uses) {
             for words in 0..=WORDS + 75 {
                 let mut lent = row.clone();
                 lent.resize(words, 0);
@@ -328,8 +415,81 @@ fn random_words(t: &mut Tally) {
     });
 }
 
+// Proposals that pass but for none, one or two faults, with each relation of the used number for the sender to the
+// proposal's own number.
+fn near_self_uses(t: &mut Tally) {
+    t.case("proposals that claim to have used themselves, or nearly", |c| {
+        let mut r = Random(6);
+        for case in 0..64 {
+            let records = 5 + r.below(60);
+            let (own, records) = a_play(&mut r, records);
+            c.fresh(own);
+            for record in &records {
+                c.hand(record, ROOM);
+            }
+            let mut row = c.words().to_vec();
+            if case % 8 == 0 {
+                row[rows::NUMBER] = L - r.below(3) as u32;
+            }
+            for (first, second) in FAULTS.iter().flat_map(|first| FAULTS.map(|second| (first, second))) {
+                for relation in RELATIONS {
+                    let mut asked = Asked::sound(&mut r, &row);
+                    first(&mut asked);
+                    second(&mut asked);
+                    let used = relation(asked.p.number);
+                    c.ask(asked.using(used));
+                }
+            }
+            // a single bit apart
+            for bit in (0..31).cycle().take(31 * 16) {
+                let asked = Asked::sound(&mut r, &row);
+                let used = asked.p.number ^ 1 << bit;
+                c.ask(asked.using(used));
+            }
+        }
+    });
+}
+
+// Proposals from servers that follow the rules from a fresh or restarted state are never hit.
+fn sixteen_offices(t: &mut Tally) {
+    let name = "sixteen offices, cut and restarted, that hand each other only what they sent";
+    let mut met = Met::default();
+    t.case(name, |c| {
+        let mut r = Random(7);
+        for case in 0..300 {
+            let mut play = Sixteen::new(&mut r, case % 5 == 0);
+            for _ in 0..2000 {
+                play.event(&mut met, |row, record, room| {
+                    c.reports.last.clear();
+                    c.lend(row);
+                    let refusal = c.hand(record, room);
+                    row.copy_from_slice(c.words());
+                    (refusal, c.written.clone())
+                });
+            }
+        }
+    });
+    println!("  all answers: {}; of deliveries: {}", tallied(&met.answers), tallied(&met.delivered));
+    t.verdicts.check(&format!("{name}: none is answered 19"), met.answers[19] == 0);
+    t.often("proposals delivered", met.delivered.iter().sum(), 100_000);
+    t.often("proposals delivered and accepted", met.delivered[0], 100_000);
+    for n in [3, 11, 13] {
+        t.often(&format!("events answered {n}"), met.answers[n], 100);
+    }
+    t.often("proposals lost", met.lost, 1000);
+    t.often("restarts from a file with a mark", met.restarts, 1000);
+    t.often("proposals sent after a restart", met.after_restart, 10_000);
+    t.met_sent(name, &met.sent, 30_000);
+}
+
+// Each number as often as it came.
+fn tallied(answers: &[u64]) -> String {
+    let came = answers.iter().enumerate().filter(|(_, &n)| n > 0);
+    came.map(|(answer, n)| format!("{answer}: {n}")).collect::<Vec<_>>().join(", ")
+}
+
 fn main() {
-    let mut tally = Tally { reached: Reached([0; 14]), inputs: 0, verdicts: Verdicts::default() };
+    let mut tally = Tally { reached: Reached::default(), inputs: 0, verdicts: Verdicts::default() };
     let t = &mut tally;
 
     t.verdicts.check("every office in words of every length", making());
@@ -338,10 +498,13 @@ fn main() {
     near_the_ceiling(t);
     lengths(t);
     random_words(t);
+    near_self_uses(t);
+    sixteen_offices(t);
 
-    let reached = t.reached.0;
-    println!("answers: {}", (0..14).map(|n| format!("{n}: {}", reached[n])).collect::<Vec<_>>().join(", "));
-    t.verdicts.check("each answer but 1 was reached", (0..14).all(|n| n == 1 || reached[n] > 0));
+    let answers = t.reached.answers;
+    println!("answers: {}", tallied(&answers));
+    t.verdicts.check("each answer but 1 was reached", ANSWERS.iter().all(|&n| answers[n] > 0));
+    t.met_self_uses();
     println!("step: {} inputs compared", tally.inputs);
     tally.verdicts.end();
 }

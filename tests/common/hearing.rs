@@ -1,6 +1,6 @@
 // What seats are tried with: the days of an office and of a room, damaged records, and rows with a word changed.
 use crate::inputs::{handed, some};
-use crate::model::{mark_length, Office, L, ROOM};
+use crate::model::{written_length, Office, L, ROOM};
 use crate::play::{Habits, Play};
 use crate::random::Random;
 use crate::seat::{members, number, view, Row};
@@ -49,7 +49,7 @@ pub fn told(random: &mut Random, habits: Habits, office: usize, records: usize) 
 fn to_seats(written: &[u8]) -> Vec<Vec<u8>> {
     let (mut all, mut rest) = (Vec::new(), written);
     while !rest.is_empty() {
-        let (record, more) = rest.split_at(mark_length(rest).unwrap_or(if rest[0] == b'S' { 14 } else { 78 }));
+        let (record, more) = rest.split_at(written_length(rest));
         if record.len() != 84 {
             all.push(record.to_vec());
         }

@@ -112,6 +112,11 @@ pub fn mark_length(record: &[u8]) -> Option<usize> {
     }
 }
 
+// The length of the record in front of what an office wrote.
+pub fn written_length(rest: &[u8]) -> usize {
+    mark_length(rest).unwrap_or(if rest[0] == b'S' { 14 } else { 78 })
+}
+
 // State
 
 #[derive(Clone, Copy, PartialEq)]
@@ -170,7 +175,7 @@ impl Office {
         0
     }
 
-    // Reasons to refuse, 2 to 12.
+    // Reasons to refuse, 2 to 12 and 19.
     fn refusal(&self, record: &[u8], room: usize) -> u8 {
         if self.malformed() {
             return 2;
@@ -197,6 +202,9 @@ impl Office {
             9
         } else if (0..16).any(|o| !has_seat(p.members, o) && p.used[o] != 0) {
             10
+        } else if p.used[sender] >= p.number {
+            // Change request 8.
+            19
         } else if p.number <= self.accepted[sender] {
             11
         } else if p.used[self.own] > self.number {

@@ -1,6 +1,6 @@
 // Plays of several offices that run by the model, with reports that come late, differ or repeat, lost and re-ordered proposals, and
 // forged ones. What one office is handed on the way is an input of the program.
-use crate::model::{has_seat, mark_length, offices, report, Office, Proposal, FAST, L, ROOM, SLOW};
+use crate::model::{has_seat, offices, report, written_length, Office, Proposal, FAST, L, ROOM, SLOW};
 use crate::random::Random;
 use crate::repeats::{is_repeat, repeat};
 use std::collections::VecDeque;
@@ -153,12 +153,14 @@ impl Play {
         let to = self.some_office();
         if self.random.below(4) == 0 {
             if let Some((joining, leaving)) = self.reports[to].pop_front() {
-                return self.hand(to, &report(joining, leaving));
+                self.hand(to, &report(joining, leaving));
+                return;
             }
         }
         let from = self.some_office();
         if let Some(record) = self.links[16 * from + to].pop_front() {
-            self.hand(to, &record);
+            let refusal = self.hand(to, &record);
+            assert_ne!(refusal, 19, "an office sends no proposal that claims to have used itself");
         }
     }
 
@@ -169,8 +171,8 @@ impl Play {
         }
     }
 
-    // One event at one office; each proposal written joins the link to each recipient.
-    pub fn hand(&mut self, to: usize, record: &[u8]) {
+    // One event at one office: its answer. Each proposal written joins the link to each recipient.
+    pub fn hand(&mut self, to: usize, record: &[u8]) -> u8 {
         if to == self.kept {
             self.input.extend_from_slice(record);
             self.records += 1;
@@ -179,17 +181,20 @@ impl Play {
             self.last[to] = record.to_vec();
         }
         self.at = to;
-        self.offices[to].step(record, ROOM, &mut self.out);
+        let refusal = self.offices[to].step(record, ROOM, &mut self.out);
         let mut rest = &self.out[..];
         while !rest.is_empty() {
-            let length = mark_length(rest).unwrap_or(if rest[0] == b'S' { 14 } else { 78 });
+            let length = written_length(rest);
             if length == 84 {
-                for other in offices(Proposal::read(rest).members).filter(|&o| o != to) {
+                let p = Proposal::read(rest);
+                assert!(p.used[to] < p.number, "what an office has used of its own is below its next number");
+                for other in offices(p.members).filter(|&o| o != to) {
                     self.links[16 * to + other].push_back(rest[..84].to_vec());
                 }
             }
             rest = &rest[length..];
         }
+        refusal
     }
 
     fn some_seats(&mut self) -> u64 {
@@ -243,6 +248,7 @@ impl Play {
         let kind = if self.random.below(2) == 0 { FAST } else { SLOW };
         let start = self.near(o.start).max(1);
         let number = (o.accepted[sender] + 1).max(self.near(base)).min(L);
+        used[sender] = used_for_sender(&mut self.random, number, used[sender]);
         Proposal { sender: sender as u8, kind, members, start, number, used }
     }
 
@@ -268,6 +274,20 @@ impl Play {
                 _ => p.members = self.random.next(),
             }
         }
+        match p.used.get_mut(p.sender as usize) {
+            Some(used) if self.random.below(4) != 0 => *used = used_for_sender(&mut self.random, p.number, *used),
+            _ => (),
+        }
         p
+    }
+}
+
+// A used number for the sender of a proposal with this number: the one given or less, so that it is below the
+// proposal's own; but in one case of 24 equal to it or above, and in two just below.
+pub fn used_for_sender(random: &mut Random, number: u32, given: u32) -> u32 {
+    match random.below(24) {
+        0 => number.saturating_add(random.below(4) as u32).min(L),
+        1 | 2 => number.saturating_sub(1),
+        _ => given.min(number.saturating_sub(1)),
     }
 }

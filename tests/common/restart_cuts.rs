@@ -1,12 +1,13 @@
 // Plays of an office whose server is cut and begins again: marks go into its file before records leave, and a cut
 // comes after any byte or any record. The office steps by the model.
+use crate::Tally;
 use crate::inputs::{a_play, some};
 use crate::marks::{kind_of, Leave, BYTES};
 use crate::model::{number, report, Office, L, ROOM};
 use crate::random::Random;
 use crate::restart_inputs::{file_of, slowest};
 use crate::rows;
-use crate::Tally;
+use crate::self_use::Sent;
 
 struct Cut;
 
@@ -22,6 +23,8 @@ struct Server {
     sent: [u32; 3],
     // each number sent was above those sent before
     rising: bool,
+    // its proposals that left
+    proposals: Sent,
     // one record in so many meets a cut
     calm: usize,
     // cuts inside a mark, between a mark and its record, behind a record that left
@@ -29,6 +32,11 @@ struct Server {
 }
 
 impl Server {
+    fn new(own: usize, file: Vec<u8>, calm: usize) -> Server {
+        let (state, proposals) = (Office::fresh(own), Sent::default());
+        Server { state, file, last: 0, sent: [0; 3], rising: true, proposals, calm, cuts: [0; 3] }
+    }
+
     // The first bytes of a mark, over an unfinished one.
     fn append(&mut self, mark: &[u8]) {
         let place = self.file.len() / BYTES * BYTES;
@@ -71,6 +79,7 @@ impl Server {
         let n = number(record, if record.len() == 84 { 16 } else { 2 });
         self.rising &= n > self.sent[kind];
         self.sent[kind] = n;
+        self.proposals.count(record);
     }
 
     // It begins again from its file: the report by which it hears of the seats that it knew of.
@@ -85,15 +94,14 @@ impl Server {
 }
 
 pub fn all(t: &mut Tally) {
-    let (mut rising, mut cuts, mut at_l) = (true, [0; 3], 0);
+    let (mut rising, mut proposals, mut cuts, mut at_l) = (true, Sent::default(), [0; 3], 0);
     t.case("plays with cuts", |t| {
         let (mut r, slowest) = (Random(21), slowest());
         for case in 0..900 {
             let (own, records) = a_play(&mut r, 150);
             // one in five comes near the top
             let before = if case % 5 == 0 { 1985 + r.below(16) } else { 0 };
-            let (state, file, calm) = (Office::fresh(own), file_of(&slowest[..before]), 2 + r.below(12));
-            let mut server = Server { state, file, last: 0, sent: [0; 3], rising: true, calm, cuts: [0; 3] };
+            let mut server = Server::new(own, file_of(&slowest[..before]), 2 + r.below(12));
             server.restart(t);
             let mut out = Vec::new();
             for record in &records {
@@ -104,11 +112,15 @@ pub fn all(t: &mut Tally) {
                 }
             }
             rising &= server.rising;
+            proposals.add(&server.proposals);
             (0..3).for_each(|kind| cuts[kind] += server.cuts[kind]);
             at_l += (server.last == L) as u64;
         }
     });
     t.verdicts.check("plays with cuts: every number sent is above those sent before", rising);
+    t.verdicts.check("plays with cuts: no proposal that left claims to have used itself", proposals.self_uses == 0);
+    t.often("proposals that left", proposals.proposals, 10_000);
+    t.often("proposals that left, the used number for the sender just below", proposals.just_below, 500);
     let said = ["cuts inside a mark", "cuts between a mark and its record", "cuts behind a record that left"];
     for (what, n) in said.into_iter().zip(cuts) {
         t.often(what, n, 1000);

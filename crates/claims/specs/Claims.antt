@@ -7,6 +7,7 @@ use Rattle.settling.specs.Statement.{SettlesUncut}
 use Rattle.claims.specs.Demand1.{Demand1}
 use Rattle.claims.specs.Demand2.{Demand2}
 use Rattle.claims.specs.Requests.{Request1, Request2, Request3, Request4, Request5, Request6, Request7}
+use Rattle.claims.specs.Requests.{Request8}
 
 pub record Claims : Type 0 where
   -- Demand 1. Every record, state and buffer is taken; what is refused has one number, and changes nothing.
@@ -30,3 +31,5 @@ pub record Claims : Type 0 where
   pub request6 : Request6
   -- Request 7. A server that loses its current.
   pub request7 : Request7
+  -- Request 8. A proposal that claims to have used itself.
+  pub request8 : Request8

@@ -40,10 +40,10 @@ pub record Rules : Type 0 where
   -- What is refused is refused with the state and the output unchanged,
   pub refusal-keeps : (s : State) (b : List ℕ) (room : ℕ) → (stepOf s b room .refusal ≡ 0 → ⊥)
       → stepOf s b room ≡ refused (stepOf s b room .refusal) s
-  -- under one number from 2 to 13; the answer is 0 otherwise;
+  -- under one number from 2 to 13, or under 19; the answer is 0 otherwise;
   pub one-number : (s : State) (b : List ℕ) (room : ℕ) → Answer (stepOf s b room .refusal)
   -- each of these numbers is met;
-  pub each-number : Every Met (2 ∷ 3 ∷ 4 ∷ 5 ∷ 6 ∷ 7 ∷ 8 ∷ 9 ∷ 10 ∷ 11 ∷ 12 ∷ 13 ∷ [])
+  pub each-number : Every Met (2 ∷ 3 ∷ 4 ∷ 5 ∷ 6 ∷ 7 ∷ 8 ∷ 9 ∷ 10 ∷ 11 ∷ 12 ∷ 13 ∷ 19 ∷ [])
   -- making a state answers 0 or 1,
   pub made-number : (office : ℕ) → (madeOf office .refusal ≡ 0) ⊎ (madeOf office .refusal ≡ 1)
   -- 1 where the office number is above 15: the fresh state of office 0 comes back with it.
@@ -58,7 +58,7 @@ pub record Rules : Type 0 where
   -- 4 and 5 only where the bytes have the mark and the length of a report or of a proposal,
   pub read-checks : (b : List ℕ) → checkOf b ≡ 0
       → (checkOwn reportMark reportLength b ≡ 0) ⊎ (checkOwn proposalMark proposalLength b ≡ 0)
-  -- 6 to 12 where the proposal is what their sentences ask for,
+  -- 6 to 12 and 19 where the proposal is what their sentences ask for,
   pub proposal-checks : (s : State) (p : Proposal) → (firstOf (proposalChecks s p) ≡ 0) ↔ Passes s p
   -- and 13 where the event makes no start, proposal or view number above L.
   pub ceiling : (s : State) (e : Event) → wellFormed s ≡ true → refusalOf s e ≡ 0 → let t = ruleOf s e .state in

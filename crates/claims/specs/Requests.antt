@@ -1,7 +1,7 @@
 -- The change requests that have landed, in the words of document 02.
 use mathlib.Core.Path.{_≡_}
 use mathlib.Core.Bool.{true}
-use mathlib.Core.List.{List, [], _∷_, _++_, map}
+use mathlib.Core.List.{List, [], _∷_, _++_, map, List·Memᴰ}
 use Prim.Native.Nat.{ℕ, _+_, _*_, _^_, _≤_, _<_}
 use lib.ListN.{length, getD}
 use lib.Dec.{ltb}
@@ -27,19 +27,20 @@ use Rattle.sheet.specs.Sheet.{recordsOn, counts, askChecks, firstBad, cameAlong
 use Rattle.sheet.specs.Answers.{GoodRecord, Tells}
 use Rattle.sheet.specs.Days.{computedAnswers, statedAnswers, computedRefusals, statedRefusals}
 use Rattle.sheet.specs.Days.{computedFull, statedFull}
-use Rattle.rules.specs.State.{State, zeros}
-use Rattle.rules.specs.Rules.{Written, view, nothingWritten, fresh, restarted, hasRecipient, repeats, viewOf}
-use Rattle.rules.specs.Rules.{reportRule}
+use Rattle.rules.specs.State.{State, zeros, usedFor}
+use Rattle.rules.specs.Rules.{Written, proposal, view, nothingWritten, fresh, restarted, hasRecipient, repeats}
+use Rattle.rules.specs.Rules.{viewOf, reportRule}
 use Rattle.rules.specs.MarkFile.{fileLimit, allHigh, lastIn, lastHigh, goodFile}
 use Rattle.rules.specs.Refusals.{wellFormed, fullRoom, aReport, eventOf, stepOf, bytesOf, allBytes, accepted}
-use Rattle.rules.specs.Refusals.{restartOf}
+use Rattle.rules.specs.Refusals.{aProposal, takeOf, restartOf}
+use Rattle.rules.specs.Days.{selfUseComputed, selfUseStated}
 use Rattle.waiting.specs.declared.Waiting.the-variants as waits
 use Rattle.waiting.specs.Waiting.{waitingFor, waitingForOfAll}
 use Rattle.waiting.specs.Days.{answersComputed, answersStated}
 use Rattle.waiting.proofs.Laws.{Means}
-use Rattle.runs.specs.Office.{Input, OfSeats, stateAfter, logOf, sentIn, leftOver, TurnsAbove, NumbersOnce}
-use Rattle.runs.specs.World.{Item, WorldEvent, atFirst}
-use Rattle.runs.specs.Begins.{RestartsAbove}
+use Rattle.runs.specs.Office.{Input, OfSeats, stateAfter, logOf, sentIn, Turn, leftOver, TurnsAbove, NumbersOnce}
+use Rattle.runs.specs.World.{Item, WorldEvent, atFirst, run}
+use Rattle.runs.specs.Begins.{RestartsAbove, HasSent}
 use Rattle.runs.specs.Files.{FileTurn, FileEvent, freshKept, keptAfter, leftKept, beginsWith, turnsOf}
 use Rattle.desk_runs.specs.Sent.{sentTo, hearings}
 use Rattle.desk_runs.specs.Syncs.{syncAfter, SyncFor}
@@ -207,3 +208,38 @@ pub record Request7 : Type 0 where
   pub code-heard-again : (seat : ℕ) → seat < seatCount → (ts : List RowTurn)
       → Every (λ t. Below 256 (bytesIn t)) ts → let l = leftKept (freshKept (officeOf seat)) (map readTurn ts) in
       Every (λ h. h .refusal ≡ 0) (hearings (freshDesk seat) (sentTo seat l))
+
+-- Request 8. A proposal that claims to have used itself.
+pub record Request8 : Type 0 where
+  -- 19 is given only where the used number for the sender is not below the proposal's own number,
+  pub only-self-use : (s : State) (p : Proposal) (room : ℕ) → takeOf s (aProposal p) room .refusal ≡ 19
+      → p .number ≤ usedFor p (p .sender)
+  -- and such a proposal is always refused.
+  pub self-use-refused : (s : State) (p : Proposal) (room : ℕ) → p .number ≤ usedFor p (p .sender)
+      → takeOf s (aProposal p) room .refusal ≡ 0 → ⊥
+  -- From a fresh or restarted state, cut off or not, at whatever numbers it begins again: every proposal that leaves
+  -- has a used number for its sender below its own number,
+  pub never-used : (own : ℕ) → own < 16 → (m : ℕ) (ts : List Turn) (p : Proposal)
+      → List·Memᴰ (proposal p) (leftOver (restarted own m) ts) → usedFor p (p .sender) < p .number
+  -- so that no state of any office answers 19 to it.
+  pub never-19 : (own : ℕ) → own < 16 → (m : ℕ) (ts : List Turn) (p : Proposal)
+      → List·Memᴰ (proposal p) (leftOver (restarted own m) ts)
+      → (s : State) (room : ℕ) → takeOf s (aProposal p) room .refusal ≡ 19 → ⊥
+  -- In the world of sixteen offices the same of every proposal sent by an office that began fresh or restarted,
+  -- whatever the others are and do:
+  pub never-used-sent : (own : ℕ) → own < 16 → (m : ℕ) (states : ℕ → State) (links : ℕ → ℕ → List Item)
+      → states own ≡ restarted own m → (es : List WorldEvent) (p : Proposal)
+      → HasSent (run (atFirst states links) es) own p → usedFor p (p .sender) < p .number
+  -- no state of any office answers 19 to it.
+  pub never-19-sent : (own : ℕ) → own < 16 → (m : ℕ) (states : ℕ → State) (links : ℕ → ℕ → List Item)
+      → states own ≡ restarted own m → (es : List WorldEvent) (p : Proposal)
+      → HasSent (run (atFirst states links) es) own p
+      → (s : State) (room : ℕ) → takeOf s (aProposal p) room .refusal ≡ 19 → ⊥
+  -- The same of the code: to no bytes that leave an office on words with its file, handed any bytes and cut off
+  -- anywhere, does any state answer 19.
+  pub code-never-19 : (own : ℕ) → own < 16 → (out : List ℕ) → highLength ≤ length out → (ws : List ℕ)
+      → Holds ws (fresh own) → (ts : List RowTurn) → Every (λ t. Below 256 (bytesIn t)) ts
+      → Every (λ b. (s : State) (room : ℕ) → stepOf s b room .refusal ≡ 19 → ⊥)
+      (rowLeft own out (record { words = ws; file = [] }) ts)
+  -- A used number just below, at and above the own number; 9 and 10 before 19, 19 before 11, 12 and 13.
+  pub self-uses : selfUseComputed ≡ selfUseStated

@@ -1,7 +1,7 @@
 -- An office on words with its file, cut off wherever, sends what the rules say of such an office.
 use mathlib.Core.Path.{_≡_, refl, sym, ap, subst, _∙_}
 use mathlib.Core.Logic.{_⊎_, inl, inr}
-use mathlib.Core.List.{List, [], _∷_, map, map-append}
+use mathlib.Core.List.{List, [], _∷_, map, map-append, List·Memᴰ}
 use Prim.Native.Nat.{ℕ, _≤_, _<_}
 use native.Mathlib.Omega.{arith}
 use native.Mathlib.Decide.{ℕ-discrete}
@@ -9,18 +9,25 @@ use lib.ListN.{length, take}
 use borrow.Author.Tests.{ne-eqb}
 use Rattle.laws.specs.Big.{Below}
 use Rattle.laws.specs.Lists.{Every, none, more}
+use Rattle.laws.proofs.Lists.{every-mapped, every-in}
 use Rattle.seats.specs.Seats.{seatCount}
 use Rattle.seats.specs.Offices.{officeOf}
 use Rattle.records.specs.Layout.{highLength, checkOf}
-use Rattle.rules.specs.State.{State}
-use Rattle.rules.specs.Rules.{Written, fresh}
-use Rattle.rules.specs.Refusals.{bytesOf, Result, takeOf, restartOf}
+use Rattle.rules.specs.State.{State, usedFor}
+use Rattle.records.specs.Fits.{FitsProposal}
+use Rattle.records.specs.declared.Proposal.{Proposal}
+use Rattle.rules.specs.Rules.{Written, proposal, fresh}
+use Rattle.rules.specs.Refusals.{bytesOf, Result, takeOf, stepOf, restartOf}
 use Rattle.rules.specs.Leaving.{Action, actionsOf, fileAfter, leftIn}
+use Rattle.rule_laws.proofs.Parts.{fresh-restarted}
+use Rattle.rule_laws.proofs.SelfUse.{written-never-19}
 use Rattle.rule_laws.proofs.Steps.{Refused, Takes, take-cases, step-takes, step-skips}
-use Rattle.runs.specs.Office.{OfSeats, answerTo}
+use Rattle.runs.specs.Office.{OfSeats, answerTo, Turn, leftOver}
 use Rattle.runs.specs.Files.{KeptOffice, acts, cutAfter, done, restartAfter, nextKept, freshKept, leftKept, beginsWith}
-use Rattle.runs.proofs.FilesOnce.{WellKept, kept-passes, kept-next, fresh-kept}
-use Rattle.runs.proofs.OfficeFits.{read-fits}
+use Rattle.runs.specs.Files.{FileTurn, turnsOf}
+use Rattle.runs.proofs.FilesOnce.{WellKept, kept-passes, kept-next, fresh-kept, kept-turns, kept-handed}
+use Rattle.runs.proofs.OfficeFits.{read-fits, left-fits}
+use Rattle.runs.proofs.OfficeUsed.{never-used}
 use Rattle.desk.specs.Hearing.{freshDesk}
 use Rattle.desk_runs.specs.Sent.{sentTo, hearings}
 use Rattle.desk_runs.proofs.Turns.{files-accepted}
@@ -155,3 +162,30 @@ pub kept-heard : (seat : ℕ) → seat < seatCount → (ts : List RowTurn) → E
     → Every (λ h. h .refusal ≡ 0)
     (hearings (freshDesk seat) (sentTo seat (leftKept (freshKept (officeOf seat)) (map readTurn ts))))
 kept-heard seat lt ts e = files-accepted seat lt (map readTurn ts) (turns-fit ts e)
+
+-- and to no bytes that leave does any office answer 19
+pub code-never-19 : (own : ℕ) → own < 16 → (out : List ℕ) → highLength ≤ length out → (ws : List ℕ)
+    → Holds ws (fresh own) → (ts : List RowTurn) → Every (λ t. Below 256 (bytesIn t)) ts
+    → Every (λ b. (s : State) (room : ℕ) → stepOf s b room .refusal ≡ 19 → ⊥)
+    (rowLeft own out (record { words = ws; file = [] }) ts)
+code-never-19 own lt out long ws h ts e =
+    rw (code-left own lt out long ws h ts)
+    (every-mapped bytesOf (every-in left (λ w i s room. written-never-19 s w room
+    (λ p q. good p (subst (λ (x : Written). List·Memᴰ x left) q i)))))
+  where
+    fs : List FileTurn
+    fs = map readTurn ts
+
+    left : List Written
+    left = leftKept (freshKept own) fs
+
+    us : List Turn
+    us = turnsOf (freshKept own) fs
+
+    good : (p : Proposal) → List·Memᴰ (proposal p) left → FitsProposal p × (usedFor p (p .sender) < p .number)
+    good p i =
+        let j = subst (λ (q : State). List·Memᴰ (proposal p) (leftOver q us)) (fresh-restarted own)
+        (subst (List·Memᴰ (proposal p)) (kept-turns own lt fs .0) i) in (
+          left-fits own lt 0 us (kept-handed (λ h. OfSeats (h .event)) (freshKept own) fs (turns-fit ts e)) p j,
+          never-used own lt 0 us p j,
+        )

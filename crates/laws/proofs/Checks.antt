@@ -1,4 +1,4 @@
--- Lists of checks: one of which none applies, one behind another.
+-- Lists of checks: one of which none applies, one behind another, what holds of the first.
 use mathlib.Core.Path.{_≡_, refl}
 use mathlib.Core.Bool.{Bool, true, false, not}
 use mathlib.Core.List.{List, [], _∷_, _++_}
@@ -11,7 +11,7 @@ use borrow.Author.Tests.{ne-eqb}
 use Rattle.laws.specs.Checks.{Check, firstOf}
 use Rattle.laws.specs.Lists.{Every, none, more}
 use Rattle.laws.specs.Upd.{ifb}
-use Rattle.laws.proofs.Fin.{true-false}
+use Rattle.laws.proofs.Fin.{if-cases, true-false}
 
 -- the first does not, and none of the rest
 pub first-none : (t : Bool) (n r : ℕ) → (ifb t (suc n) r ≡ 0) ↔ ((t ≡ false) × (r ≡ 0))
@@ -39,3 +39,9 @@ first-append (c ∷ cs) ds (more n e) = go (c .applies) (first-append cs ds e)
         → Splits (ifb t (c .number) (firstOf (cs ++ ds))) (ifb t (c .number) (firstOf cs))
     go true h = rw n
     go false h = h
+
+-- what holds of 0, and of the number of each check that applies, holds of the first
+pub first-by : (P : ℕ → Type 0) → P 0 → (cs : List Check) → Every (λ c. c .applies ≡ true → P (c .number)) cs
+    → P (firstOf cs)
+first-by P z [] none = z
+first-by P z (c ∷ cs) (more h e) = if-cases P (c .applies) (c .number) (firstOf cs) h (λ f. first-by P z cs e)

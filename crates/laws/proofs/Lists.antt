@@ -1,7 +1,8 @@
 -- Runs of a step over a list, and what holds of each entry.
 use mathlib.Core.Path.{_≡_, refl}
 use mathlib.Core.Logic.{_⊎_, inl, inr}
-use mathlib.Core.List.{List, [], _∷_, _++_, List·Memᴰ, List·Memᴰ·not-nil, List·Memᴰ·cases-cons}
+use mathlib.Core.List.{List, [], _∷_, _++_, map, List·Memᴰ, List·Memᴰ·head, List·Memᴰ·tail, List·Memᴰ·not-nil}
+use mathlib.Core.List.{List·Memᴰ·cases-cons}
 use Prim.Native.Nat.{ℕ, zero, suc}
 use lib.ListN.{take}
 use Rattle.laws.specs.Lists.{runs, Every, none, more}
@@ -47,6 +48,15 @@ module _ {A : Type 0} {R : A → Type 0} where
   every-take zero e = none
   every-take (suc n) none = none
   every-take (suc n) (more r e) = more r (every-take n e)
+
+  pub every-mapped : {B : Type 0} (f : B → A) {l : List B} → Every (λ b. R (f b)) l → Every R (map f l)
+  every-mapped f none = none
+  every-mapped f (more r e) = more r (every-mapped f e)
+
+  -- of each that is in the list
+  pub every-in : (l : List A) → ((a : A) → List·Memᴰ a l → R a) → Every R l
+  every-in [] h = none
+  every-in (a ∷ l) h = more (h a (List·Memᴰ·head refl)) (every-in l (λ b m. h b (List·Memᴰ·tail m)))
 
   -- so of one that is in the list
   pub every-at : {a : A} (l : List A) → Every R l → List·Memᴰ a l → R a

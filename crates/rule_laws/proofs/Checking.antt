@@ -1,4 +1,4 @@
--- Checks 6 to 12 in their order.
+-- Checks 6 to 10, 19, 11 and 12 in their order.
 use mathlib.Core.Path.{_≡_, refl, sym, _∙_}
 use mathlib.Core.Bool.{false}
 use Prim.Native.Nat.{ℕ, _≤_, _<_}
@@ -16,7 +16,13 @@ use Rattle.rules.specs.Refusals.{formChecks, wrongSender, notAbove, usedAhead, 
 
 -- no number of theirs is 0, which says that none applies
 form-numbers : (own : ℕ) (p : Proposal) → Every (λ c. eqb (c .number) 0 ≡ false) (formChecks own p)
-form-numbers own p = more refl (more refl (more refl (more refl (more refl none))))
+form-numbers own p = more refl (more refl (more refl (more refl (more refl (more refl none)))))
+
+-- who passes check 6 is an office
+pub sender-office : (own : ℕ) (p : Proposal) → wrongSender own p ≡ false → p .sender < 16
+unfolding wrongSender
+sender-office own p e =
+    let h = ltb-false 15 (p .sender) (or-l (ltb 15 (p .sender)) (eqb (p .sender) own) e) in omega arith
 
 module _ (s : State) (p : Proposal) (n : ℕ) (e : n ≡ firstOf (formChecks (s .own) p)) where
   split : firstOf (proposalChecks s p) ≡ ifb (eqb n 0) (firstOf (stateChecks s p)) n
@@ -28,11 +34,7 @@ module _ (s : State) (p : Proposal) (n : ℕ) (e : n ≡ firstOf (formChecks (s 
 
   module _ (z : n ≡ 0) where
     pub checked-sender : p .sender < 16
-    unfolding wrongSender
-    checked-sender =
-        let w = first-none (wrongSender (s .own) p) 5 _ .0 (sym e ∙ z) .0 in
-        let h = ltb-false 15 (p .sender) (or-l (ltb 15 (p .sender)) (eqb (p .sender) (s .own)) w) in
-        omega arith
+    checked-sender = sender-office (s .own) p (first-none (wrongSender (s .own) p) 5 _ .0 (sym e ∙ z) .0)
 
     pub checked-11 : p .number ≤ acceptedAt s (p .sender) → 11 ≡ firstOf (proposalChecks s p)
     unfolding notAbove

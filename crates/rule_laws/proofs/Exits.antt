@@ -58,7 +58,7 @@ module _ (s : State) (b : List ℕ) (room : ℕ) where
       exit-read c = rw (well, le-ltb room fullRoom fits, c)
 
 module _ (s : State) (e : Event) where
-  -- 6 to 12
+  -- 6 to 12 and 19
   pub act-checked : (refusalOf s e ≡ 0 → ⊥) → actOf s e .refusal ≡ refusalOf s e
   unfolding actOf
   act-checked h = rw (ne-eqb (refusalOf s e) 0 h)

@@ -10,6 +10,7 @@ pub mod Ceiling
 pub mod Bounds
 pub mod Written
 pub mod Reasons
+pub mod SelfUse
 pub mod Counted
 pub mod Monotone
 pub mod Sizes

@@ -1,30 +1,25 @@
--- Which numbers come back: a step gives 0 or a reason from 2 to 13, making a state gives 0 or 1.
+-- Which numbers come back: a step gives 0 or one of its reasons, making a state gives 0 or 1.
 use mathlib.Core.Path.{_≡_, refl}
 use mathlib.Core.Bool.{true, _&&_, not}
 use mathlib.Core.Logic.{_⊎_, inl, inr}
-use mathlib.Core.List.{List, [], _∷_}
+use mathlib.Core.List.{List}
 use Prim.Native.Nat.{ℕ, _≤_}
 use lib.ListN.{length}
 use lib.Dec.{eqb, ltb, leb}
-use Rattle.laws.specs.Lists.{Every, none, more}
+use Rattle.laws.specs.Lists.{none, more}
+use Rattle.laws.proofs.Checks.{first-by}
 use Rattle.laws.proofs.Fin.{if-cases, as-facts}
 use Rattle.records.specs.Layout.{formOf, checkFor, checkOf}
 use Rattle.rules.specs.State.{State}
-use Rattle.laws.specs.Checks.{Check, firstOf}
 use Rattle.rules.specs.Refusals.{wellFormed, fullRoom, Made, madeOf, unreadable, Event, aReport, aProposal, eventOf}
 use Rattle.rules.specs.Refusals.{proposalChecks, refusalOf}
 use Rattle.rules.specs.Refusals.{ruleOf, Result, accepting, actOf, stepOf}
 
--- 0, or from 2 to 13
+-- 0, from 2 to 13, or 19
 pub data Answer (n : ℕ) : Type 0 where
   accepts : n ≡ 0 → Answer n
   refuses : 2 ≤ n → n ≤ 13 → Answer n
-
--- the first of checks with such numbers
-first-answer : (cs : List Check) → Every (λ c. Answer (c .number)) cs → Answer (firstOf cs)
-first-answer [] none = accepts refl
-first-answer (c ∷ cs) (more a e) =
-    if-cases Answer (c .applies) (c .number) (firstOf cs) (λ t. a) (λ t. first-answer cs e)
+  uses-itself : n ≡ 19 → Answer n
 
 reason : (n : ℕ) → leb 2 n && leb n 13 ≡ true → Answer n
 reason n e = let f = simp as-facts at e in refuses (f .0) (f .1)
@@ -46,9 +41,10 @@ unreadable-answer s b room =
 event-answer : (s : State) (e : Event) → Answer (refusalOf s e)
 unfolding proposalChecks
 event-answer s (aReport r) = accepts refl
-event-answer s (aProposal p) = first-answer (proposalChecks s p)
-    (more (reason 6 refl) (more (reason 7 refl) (more (reason 8 refl) (more (reason 9 refl)
-    (more (reason 10 refl) (more (reason 11 refl) (more (reason 12 refl) none)))))))
+event-answer s (aProposal p) = first-by Answer (accepts refl) (proposalChecks s p)
+    (more (λ e. reason 6 refl) (more (λ e. reason 7 refl) (more (λ e. reason 8 refl) (more (λ e. reason 9 refl)
+    (more (λ e. reason 10 refl) (more (λ e. uses-itself refl) (more (λ e. reason 11 refl)
+    (more (λ e. reason 12 refl) none))))))))
 
 act-answer : (s : State) (e : Event) → Answer (actOf s e .refusal)
 unfolding actOf accepting

@@ -22,8 +22,9 @@ use Rattle.rules.specs.State.{Slot, State, fast, slow, storedAt, acceptedAt, us
 use Rattle.rules.specs.Rules.{Written, fresh, restarted}
 use Rattle.rule_laws.proofs.Parts.{restarted-reads, restarted-view, fresh-restarted}
 use Rattle.rules.specs.Refusals.{fullRoom, slotWithin, wellFormed, unreadable, Event, eventOf, wrongSender, wrongKind}
-use Rattle.rules.specs.Refusals.{wrongNumber, withoutSeat, strayUsed, notAbove, usedAhead, proposalChecks, refusalOf}
-use Rattle.rules.specs.Refusals.{ruleOf, Result, refused, accepted, accepting, actOf, takeOf, stepOf}
+use Rattle.rules.specs.Refusals.{wrongNumber, withoutSeat, strayUsed, usesItself, notAbove, usedAhead}
+use Rattle.rules.specs.Refusals.{proposalChecks, refusalOf, ruleOf, Result, refused, accepted, accepting, actOf}
+use Rattle.rules.specs.Refusals.{takeOf, stepOf}
 
 -- what a stored proposal that passes check 2 satisfies
 pub record SlotWithin (v : Slot) : Type 0 where
@@ -99,7 +100,7 @@ restarted-well own m lt le =
 pub fresh-well : (own : ℕ) → own < 16 → wellFormed (fresh own) ≡ true
 fresh-well own lt = rw (fresh-restarted own) (restarted-well own 0 lt (omega arith))
 
--- what a proposal that passes checks 6 to 12 satisfies
+-- what a proposal that passes checks 6 to 10, 19, 11 and 12 satisfies
 pub record Passes (s : State) (p : Proposal) : Type 0 where
   pub sender : p .sender < 16
   pub other : p .sender ≡ s .own → ⊥
@@ -110,18 +111,20 @@ pub record Passes (s : State) (p : Proposal) : Type 0 where
   pub seat : serves (p .members .bits) (p .sender) ≡ true
   pub ownSeat : serves (p .members .bits) (s .own) ≡ true
   pub stray : (o : ℕ) → o < 16 → serves (p .members .bits) o ≡ false → usedFor p o ≡ 0
+  pub used-below : usedFor p (p .sender) < p .number
   pub above : acceptedAt s (p .sender) < p .number
   pub behind : usedFor p (s .own) ≤ s .number
 
 pub check-facts : (s : State) (p : Proposal) → firstOf (proposalChecks s p) ≡ 0 → Passes s p
-unfolding proposalChecks wrongSender wrongKind wrongNumber withoutSeat strayUsed notAbove usedAhead
+unfolding proposalChecks wrongSender wrongKind wrongNumber withoutSeat strayUsed usesItself notAbove usedAhead
 check-facts s p e =
     let c6 = first-none (wrongSender (s .own) p) 5 _ .0 e in
     let c7 = first-none (wrongKind p) 6 _ .0 (c6 .1) in
     let c8 = first-none (wrongNumber p) 7 _ .0 (c7 .1) in
     let c9 = first-none (withoutSeat (s .own) p) 8 _ .0 (c8 .1) in
     let c10 = first-none (strayUsed p) 9 _ .0 (c9 .1) in
-    let c11 = first-none (notAbove s p) 10 _ .0 (c10 .1) in
+    let c19 = first-none (usesItself p) 18 _ .0 (c10 .1) in
+    let c11 = first-none (notAbove s p) 10 _ .0 (c19 .1) in
     let c12 = first-none (usedAhead s p) 11 0 .0 (c11 .1) in
     let f6 = simp as-facts at (c6 .0) in
     let f8 = simp as-facts at (c8 .0) in
@@ -136,6 +139,7 @@ check-facts s p e =
       seat = f9 .0;
       ownSeat = f9 .1;
       stray = stray-out (p .used) (p .members .bits) (c10 .0);
+      used-below = leb-false _ _ (c19 .0);
       above = leb-false _ _ (c11 .0);
       behind = ltb-false _ _ (c12 .0);
     }
@@ -145,7 +149,7 @@ check-facts s p e =
     kinds (inr e) = inr (eqb-true (p .kind) slow e)
 
 pub facts-check : (s : State) (p : Proposal) → Passes s p → firstOf (proposalChecks s p) ≡ 0
-unfolding proposalChecks wrongSender wrongKind wrongNumber withoutSeat strayUsed notAbove usedAhead
+unfolding proposalChecks wrongSender wrongKind wrongNumber withoutSeat strayUsed usesItself notAbove usedAhead
 facts-check s p h =
     let number : (n : ℕ) → (0 < n) × (n ≤ limit) → (n ≡ 0 → ⊥) × (n < suc limit) = λ n l. (omega arith, omega arith) in
     let a = number (p .start) (h .start) in
@@ -156,9 +160,10 @@ facts-check s p h =
     simp as-facts ((((a .0, a .1), b .0), b .1), λ o l. let u = h .used o l in omega arith) in
     let c9 : withoutSeat (s .own) p ≡ false = simp as-facts (h .seat, h .ownSeat) in
     let c10 : strayUsed p ≡ false = stray-in (p .used) (p .members .bits) (h .stray) in
+    let c19 : usesItself p ≡ false = lt-leb _ _ (h .used-below) in
     let c11 : notAbove s p ≡ false = lt-leb _ _ (h .above) in
     let c12 : usedAhead s p ≡ false = le-ltb _ _ (h .behind) in
-    rw (c6, c7, c8, c9, c10, c11, c12)
+    rw (c6, c7, c8, c9, c10, c19, c11, c12)
   where
     kinds : (p .kind ≡ fast) ⊎ (p .kind ≡ slow) → wrongKind p ≡ false
     kinds (inl e) = rw e

@@ -21,8 +21,8 @@ use Rattle.rules.specs.Rules.{agreed, startOf, viewOf, concluded, agreem
 use Rattle.rules.specs.Rules.{proposalRule}
 use Rattle.records.specs.Numbers.{limit}
 use Rattle.rules.specs.Refusals.{Result, slotWithin, wellFormed, unreadable, eventOf, wrongSender, wrongKind}
-use Rattle.rules.specs.Refusals.{wrongNumber, withoutSeat, strayUsed, notAbove, usedAhead, proposalChecks}
-use Rattle.rules.specs.Refusals.{accepting, actOf, takeOf, fullRoom, stepOf, allBytes}
+use Rattle.rules.specs.Refusals.{wrongNumber, withoutSeat, strayUsed, usesItself, notAbove, usedAhead}
+use Rattle.rules.specs.Refusals.{proposalChecks, accepting, actOf, takeOf, fullRoom, stepOf, allBytes}
 
 -- what is seen of a day: the refusal or 0, the bytes written, the records they are, the current view number
 pub record Day : Type 0 where
@@ -64,8 +64,8 @@ unfolding upd allb anyb largest tab bytesAll bit has unionOf withoutOf serves en
     withNet repeats seated opened noticeOf opens nextNumber ownProposal proposed receives proposesFast received
     matching matchingSlow aboveOwn usesOwn slowCalled joinedNumber slowNumber proposesSlow slowTest agreesKind isNone
     agreed startOf viewOf concluded agreementTest tests changeRule reportRule proposalRule slotWithin wellFormed
-    unreadable eventOf wrongSender wrongKind wrongNumber withoutSeat strayUsed notAbove usedAhead proposalChecks
-    accepting actOf takeOf stepOf allBytes
+    unreadable eventOf wrongSender wrongKind wrongNumber withoutSeat strayUsed usesItself notAbove usedAhead
+    proposalChecks accepting actOf takeOf stepOf allBytes
 given s b = stepOf s b fullRoom
 
 -- what is handed in: a report of joining and of leaving seats, one of joining seats only, and P of document 01
@@ -283,7 +283,8 @@ furtherStated =
     ∷ accepts 78 (aView 2 both 1 1 ∷ []) 2
     ∷ []
 
--- An input for each reason to refuse from 2 to 10, at a fresh office 0: the smallest change to what would be accepted.
+-- An input for each reason to refuse from 2 to 10, and for 19, at a fresh office 0: the smallest change to what would
+-- be accepted.
 abbrev from : ℕ → ℕ → ℕ → ℕ → ℕ → List ℕ → Result
 from sender kind members start number used =
     given before
@@ -319,9 +320,41 @@ refusals =
     ∷ from 1 fast seat0 1 1 (two 0 0) .refusal
     ∷ from 1 fast seat4 1 1 (two 0 0) .refusal
     ∷ from 1 fast both 1 1 (0 ∷ 0 ∷ 1 ∷ tab 13 (λ o. 0)) .refusal
+    ∷ from 1 fast both 1 1 (two 0 1) .refusal
     ∷ from 1 fast both 1 1 (two 0 0) .refusal
     ∷ []
 
 -- the reasons, and that the last is accepted
 unfoldable pub reasons : List ℕ
-reasons = 2 ∷ 3 ∷ 4 ∷ 4 ∷ 5 ∷ 5 ∷ 6 ∷ 6 ∷ 7 ∷ 7 ∷ 8 ∷ 8 ∷ 8 ∷ 8 ∷ 9 ∷ 9 ∷ 10 ∷ 0 ∷ []
+reasons = 2 ∷ 3 ∷ 4 ∷ 4 ∷ 5 ∷ 5 ∷ 6 ∷ 6 ∷ 7 ∷ 7 ∷ 8 ∷ 8 ∷ 8 ∷ 8 ∷ 9 ∷ 9 ∷ 10 ∷ 19 ∷ 0 ∷ []
+
+-- A proposal that claims to have used itself, request 8. Office 1's used number stands last in P.
+unfoldable pub selfUseComputed : List Day
+selfUseComputed =
+    seen dayE ∷ seen (P (dayC .state) fast 3 2 2 2) ∷ seen (P (dayC .state) fast 3 2 2 3)
+    ∷ seen dayJ ∷ seen (P before fast 1 1 0 1)
+    ∷ seen (P before slow 1 limit 0 (limit - 1)) ∷ seen (P before slow 1 limit 0 limit)
+    ∷ seen (P (dayB .state) fast 1 1 2 0)
+    ∷ seen (from 1 fast both 1 1 (0 ∷ 1 ∷ 1 ∷ tab 13 (λ o. 0))) ∷ seen (from 1 fast seat0 1 1 (two 0 1))
+    ∷ seen (P (dayC .state) fast 1 1 0 0) ∷ seen (P (dayC .state) fast 1 1 0 1)
+    ∷ seen (P (dayB .state) fast 1 1 3 0) ∷ seen (P (dayB .state) fast 1 1 3 1)
+    ∷ seen (P (atLimit .state) fast 1 (limit - 1) limit 0)
+    ∷ seen (P (atLimit .state) fast 1 (limit - 1) limit (limit - 1))
+    ∷ []
+
+unfoldable pub selfUseStated : List Day
+selfUseStated =
+    -- E, whose used number is just below its number 2; with 2 it is 19, with 3 too
+    accepts 98 (aNotice 3 both ∷ aSlow 3 3 2 1 ∷ []) 3 ∷ refuses 19 3 ∷ refuses 19 3
+    -- number 1 has 0 below it; number L has L - 1
+    ∷ accepts 0 [] 0 ∷ refuses 19 0
+    ∷ accepts 0 [] 0 ∷ refuses 19 0
+    -- the used number for this office may be above the proposal's number: it is the own one, as in G
+    ∷ accepts 84 (aSlow 2 3 1 0 ∷ []) 2
+    -- 10 and 9 come before 19
+    ∷ refuses 10 0 ∷ refuses 9 0
+    -- D, H and the ceiling: 19 comes before 11, 12 and 13
+    ∷ refuses 11 3 ∷ refuses 19 3
+    ∷ refuses 12 2 ∷ refuses 19 2
+    ∷ refuses 13 0 ∷ refuses 19 0
+    ∷ []

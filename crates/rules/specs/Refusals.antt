@@ -67,7 +67,7 @@ pub data Event : Type 0 where
 unfoldable pub eventOf : List ℕ → Event
 eventOf b = ifb (eqb (markOf b) (valueOf reportMark)) (aReport (decodeReport b)) (aProposal (decodeProposal b))
 
--- 6 to 10 look at the proposal and the own office
+-- 6 to 10 and 19 look at the proposal and the own office
 unfoldable pub wrongSender : ℕ → Proposal → Bool
 wrongSender own p = ltb 15 (p .sender) || eqb (p .sender) own
 
@@ -85,11 +85,14 @@ withoutSeat own p = not (serves (p .members .bits) (p .sender)) || not (serves (
 unfoldable pub strayUsed : Proposal → Bool
 strayUsed p = strayNumber (p .members .bits) (p .used)
 
+unfoldable pub usesItself : Proposal → Bool
+usesItself p = leb (p .number) (usedFor p (p .sender))
+
 abbrev pub formChecks : ℕ → Proposal → List Check
 formChecks own p =
     record { number = 6; applies = wrongSender own p } ∷ record { number = 7; applies = wrongKind p }
     ∷ record { number = 8; applies = wrongNumber p } ∷ record { number = 9; applies = withoutSeat own p }
-    ∷ record { number = 10; applies = strayUsed p } ∷ []
+    ∷ record { number = 10; applies = strayUsed p } ∷ record { number = 19; applies = usesItself p } ∷ []
 
 -- 11 and 12 look at what this office has accepted and proposed
 unfoldable pub notAbove : State → Proposal → Bool
@@ -133,7 +136,7 @@ accepting s o = ifb (wellFormed (o .state)) (accepted o) (refused 13 s)
 unfoldable pub actOf : State → Event → Result
 actOf s e = ifb (eqb (refusalOf s e) 0) (accepting s (ruleOf s e)) (refused (refusalOf s e) s)
 
--- an event handed to a state, with an output of length room: 2, 3, then 6 to 13
+-- an event handed to a state, with an output of length room: 2, 3, then 6 to 10, 19, 11 to 13
 unfoldable pub takeOf : State → Event → ℕ → Result
 takeOf s e room = ifb (wellFormed s) (ifb (ltb room fullRoom) (refused 3 s) (actOf s e)) (refused 2 s)
 

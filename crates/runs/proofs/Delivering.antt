@@ -133,6 +133,7 @@ module _ (F : ℕ → Bool) where
             seat = rw (v .sender) (v .seat);
             ownSeat = rw (sim-me .own) (v .to-seat);
             stray = v .stray;
+            used-below = rw (v .sender) (v .used-below);
             above = rw (v .sender, a) (let z = r .0 in omega arith);
             behind = rw (sim-me .own, n) (let z = u in omega arith);
           }

@@ -18,6 +18,7 @@ use Rattle.rules.specs.Rules.{ownProposal, proposed, proposesFast, slowNumber, 
 use Rattle.rules.specs.Refusals.{Event, aReport, aProposal, refusalOf, ruleOf, Result, takeOf}
 use Rattle.rule_laws.proofs.Parts.{withNet-reads, opened-reads, proposed-reads, received-reads, concluded-reads}
 use Rattle.rule_laws.proofs.Parts.{restarted-reads, made-is}
+use Rattle.rule_laws.proofs.SelfUse.{only-19}
 use Rattle.rule_laws.proofs.Tests.{next-above, slow-above}
 use Rattle.rule_laws.proofs.Steps.{check-facts, Refused, Takes, take-cases, take-accepts}
 use Rattle.rule_laws.proofs.Walk.{arrived, arrived-own, arrived-number, arrived-used, Walk, walk-event}
@@ -144,3 +145,14 @@ module _ (own : ℕ) (lt : own < 16) where
       (run-log own (OwnUsed own) (IfProposal UsedBelow) Any restarted-own-used (λ s f. f .office)
       (λ s h i. answer-own-used s h) (λ h. tt) (atFirst states links) es
       (rw begins (restarted-own-used m), none) .1) (sent .1))
+
+  -- so no state of any office answers 19 to it
+  pub never-19 : (m : ℕ) (ts : List Turn) (p : Proposal) → List·Memᴰ (proposal p) (leftOver (restarted own m) ts)
+      → (s : State) (room : ℕ) → takeOf s (aProposal p) room .refusal ≡ 19 → ⊥
+  never-19 m ts p i s room e = let a = never-used m ts p i in let b = only-19 s p room e in omega arith
+
+  pub never-19-sent : (m : ℕ) (states : ℕ → State) (links : ℕ → ℕ → List Item) → states own ≡ restarted own m
+      → (es : List WorldEvent) (p : Proposal) → HasSent (run (atFirst states links) es) own p
+      → (s : State) (room : ℕ) → takeOf s (aProposal p) room .refusal ≡ 19 → ⊥
+  never-19-sent m states links begins es p sent s room e =
+      let a = never-used-sent m states links begins es p sent in let b = only-19 s p room e in omega arith

@@ -22,7 +22,7 @@ module _ (s : State) (e : Event) where
     unfolding refusalFrom
     from-read = rw z
 
-    -- 6 to 12
+    -- 6 to 12 and 19
     pub from-checks : (m : ℕ) → m ≡ refusalOf s e → (m ≡ 0 → ⊥) → m ≡ refusalFrom n s e
     from-checks m d h = d ∙ sym (from-read ∙ act-checked s e (λ y. h (d ∙ y)))
 

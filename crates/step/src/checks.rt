@@ -1,4 +1,4 @@
-// Checks 1 to 3 and 11 to 13, and the order of 6 to 12. The records answer 4 and 5.
+// Checks 1 to 3 and 11 to 13, and the order of 6 to 10, 19, 11 and 12. The records answer 4 and 5.
 use crate::form::form_refusal;
 use records::Proposal;
 use records::layout;
@@ -53,7 +53,7 @@ fn used_ahead(state: &[u32], p: Proposal) -> bool
     row::number(state) < p.used[own]
 }
 
-// Checks 6 to 12: the first that applies, 0 where none does.
+// Checks 6 to 10, 19, 11 and 12: the first that applies, 0 where none does.
 pub fn proposal_refusal(state: &[u32], p: Proposal) -> u8
     requires { ⌜ Row (now state) × (stateOf (now state) .own < 16) ⌝ }
     ensures { λ r. ⌜ r ≡ firstOf (proposalChecks (stateOf (now (state .entry))) p) ⌝ }

@@ -1,4 +1,4 @@
-// Checks 6 to 10, which ask for the own office and the proposal and for no state. The records make check 10.
+// Checks 6 to 10 and 19, which ask for the own office and the proposal and for no state. The records make check 10.
 use records::FAST;
 use records::Proposal;
 use records::SLOW;
@@ -7,8 +7,9 @@ use records::numbers::above_limit;
 use records::numbers::stray_number;
 use seats::offices::serves;
 ghost use mathlib.Core.Path.{_≡_};
+ghost use Prim.Native.Nat.{_<_};
 ghost use Rattle.laws.specs.Checks.{firstOf};
-ghost use Rattle.rules.specs.Refusals.{wrongSender, wrongKind, wrongNumber, withoutSeat, formChecks};
+ghost use Rattle.rules.specs.Refusals.{wrongSender, wrongKind, wrongNumber, withoutSeat, usesItself, formChecks};
 
 // Check 6.
 fn wrong_sender(own: u8, p: Proposal) -> bool
@@ -44,7 +45,15 @@ fn without_seat(own: u8, p: Proposal) -> bool
     !serves(p.members, p.sender) | !serves(p.members, own)
 }
 
-// Checks 6 to 10: the first that applies, 0 where none does.
+// Check 19.
+fn uses_itself(p: Proposal) -> bool
+    requires { ⌜ p .sender < 16 ⌝ }
+    ensures { λ r. ⌜ r ≡ usesItself p ⌝ }
+{
+    p.number <= p.used[p.sender as usize]
+}
+
+// Checks 6 to 10 and 19: the first that applies, 0 where none does.
 pub fn form_refusal(own: u8, p: Proposal) -> u8
     ensures { λ r. ⌜ r ≡ firstOf (formChecks own p) ⌝ }
 {
@@ -63,6 +72,9 @@ pub fn form_refusal(own: u8, p: Proposal) -> u8
     let used = p.used;
     if stray_number(p.members, used) {
         return 10;
+    }
+    if uses_itself(p) {
+        return 19;
     }
     0
 }

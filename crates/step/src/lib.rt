@@ -9,7 +9,7 @@ ghost use Rattle.step.specs.Step.{Stepped, stepRow};
 // What the step answers.
 pub mod answers;
 
-// Checks 6 to 10.
+// Checks 6 to 10 and 19.
 mod form;
 
 // Checks 1 to 3 and 11 to 13.

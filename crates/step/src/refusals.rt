@@ -1,4 +1,5 @@
-// Checks 6 to 13 on a record that was read. For 13, where a number is near L, the event is tried on a copy of the row.
+// Checks 6 to 13 and 19 on a record that was read. For 13, where a number is near L, the event is tried on a copy of
+// the row.
 use crate::checks::ROOM;
 use crate::checks::made_within;
 use crate::checks::proposal_refusal;
@@ -33,7 +34,7 @@ fn report_within(state: &[u32], low: bool, r: Report) -> bool
     made_within(&tried)
 }
 
-// Check 13 on a proposal that passes 6 to 12.
+// Check 13 on a proposal that passes all others.
 fn proposal_within(state: &[u32], low: bool, p: Proposal) -> bool
     requires { ⌜ (soundRow (now state) ≡ true) × (low ≡ true → Capped lowNumber lowNumber (stateOf (now state)))
         × (firstOf (proposalChecks (stateOf (now state)) p) ≡ 0) ⌝ }

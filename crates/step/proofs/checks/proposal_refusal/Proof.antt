@@ -10,7 +10,7 @@ use borrow.Author.Needs.{needs}
 use Rattle.step.proofs.checks.proposal_refusal.Statement.{statement}
 use Rattle.step.proofs.checks.proposal_refusal.Tie as tie
 
--- what checks 6 to 10 answered, of the state
+-- what checks 6 to 10 and 19 answered, of the state
 told : (c : tie.After-form-refusal)
     → let a = c .before .before .before .args in
     c .form-refusal .result ≡ firstOf (formChecks (stateOf (a .state .now) .own) (a .p))

@@ -1,6 +1,7 @@
 use mathlib.Core.Path.{_≡_, sym, _∙_}
 use mathlib.Core.Bool.{false}
 use Rattle.rules.specs.Refusals.{wrongSender, wrongKind, wrongNumber, withoutSeat, strayUsed}
+use Rattle.rule_laws.proofs.Checking.{sender-office}
 use borrow.Author.Needs.{needs}
 use Rattle.step.proofs.form.form_refusal.Statement.{statement}
 use Rattle.step.proofs.form.form_refusal.Tie as tie
@@ -19,6 +20,12 @@ passed-9 : (c : tie.Else4)
     → let a = c .before .before .before .before .before .before .before .before .args in
     withoutSeat (a .own) (a .p) ≡ false
 passed-9 c = sym (c .before .without-seat .ensures) ∙ c .if4 .left
+
+passed-10 : (c : tie.Else5)
+    → strayUsed (c .before .before .before .before .before .before .before .before .before .before .before .args .p)
+    ≡ false
+unfolding strayUsed
+passed-10 c = sym (c .before .stray-number .ensures) ∙ c .if5 .left
 
 wrong-sender-requires : tie.Need-wrong-sender-requires
 wrong-sender-requires c κs = search needs
@@ -71,10 +78,17 @@ returns-5 c =
       sym (c .before .stray-number .ensures) ∙ c .if5 .taken,
     )
 
+-- check 6 passed, so the sender is an office
+uses-itself-requires : tie.Need-uses-itself-requires
+uses-itself-requires c κs =
+    let after6 = c .before .before .before .before .before .before .before .before .before in
+    let a = after6 .before .before .args in
+    sender-office (a .own) (a .p) (passed-6 after6)
+
 returns-6 : tie.Need-returns-6
-unfolding strayUsed
 returns-6 c =
-    let after9 = c .before .before .before in
+    let after10 = c .before .before in
+    let after9 = after10 .before .before .before in
     let after8 = after9 .before .before in
     let after7 = after8 .before .before in
     rw (
@@ -82,7 +96,23 @@ returns-6 c =
       passed-7 after7,
       passed-8 after8,
       passed-9 after9,
-      sym (c .before .stray-number .ensures) ∙ c .if5 .left,
+      passed-10 after10,
+      sym (c .before .uses-itself .ensures) ∙ c .if6 .taken,
+    )
+
+returns-7 : tie.Need-returns-7
+returns-7 c =
+    let after10 = c .before .before in
+    let after9 = after10 .before .before .before in
+    let after8 = after9 .before .before in
+    let after7 = after8 .before .before in
+    rw (
+      passed-6 (after7 .before .before),
+      passed-7 after7,
+      passed-8 after8,
+      passed-9 after9,
+      passed-10 after10,
+      sym (c .before .uses-itself .ensures) ∙ c .if6 .left,
     )
 
 pub form-refusal-spec : {M : Type 1} → statement M
@@ -99,4 +129,6 @@ form-refusal-spec =
     returns-4
     stray-number-requires
     returns-5
-    returns-6)
+    uses-itself-requires
+    returns-6
+    returns-7)

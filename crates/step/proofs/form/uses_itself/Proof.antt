@@ -1,0 +1,21 @@
+use mathlib.Core.Path.{refl}
+use Rattle.rules.specs.Refusals.{usesItself}
+use borrow.Author.Needs.{needs}
+use Rattle.step.proofs.form.uses_itself.Statement.{statement}
+use Rattle.step.proofs.form.uses_itself.Tie as tie
+
+cast-result : tie.Need-cast-result
+cast-result c = search needs
+
+mul-result : tie.Need-mul-result
+mul-result c = search needs
+
+element-copy-out-result : tie.Need-element-copy-out-result
+element-copy-out-result c = search needs
+
+returns : tie.Need-returns
+unfolding usesItself
+returns c = refl
+
+pub uses-itself-spec : {M : Type 1} → statement M
+uses-itself-spec = tie.close (tie.spec cast-result mul-result element-copy-out-result returns)
