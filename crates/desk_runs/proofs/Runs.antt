@@ -2,7 +2,6 @@
 -- hold it, in the order sent, whether or not it left and came back in between.
 use mathlib.Core.Path.{_≡_, refl}
 use mathlib.Core.List.{List}
-use mathlib.Core.Logic.{_⊎_, inl, inr}
 use Prim.Native.Nat.{ℕ, _<_}
 use native.Mathlib.Omega.{arith}
 use Rattle.laws.specs.Lists.{Every}
@@ -10,9 +9,8 @@ use Rattle.seats.specs.Seats.{seatCount}
 use Rattle.seats.specs.Offices.{officeOf}
 use Rattle.rules.specs.State.{State}
 use Rattle.rules.specs.Rules.{Written, fresh}
-use Rattle.rules.specs.Refusals.{Result, takeOf}
 use Rattle.rule_laws.proofs.Parts.{fresh-reads}
-use Rattle.rule_laws.proofs.Steps.{Refused, Takes, take-cases, take-accepts}
+use Rattle.rule_laws.proofs.Steps.{take-by}
 use Rattle.runs.specs.Office.{Input, OfSeats, answerTo, nextState, stateAfter, logOf, sentIn}
 use Rattle.runs.proofs.OfficeRuns.{Beside, beside-run}
 use Rattle.desk.specs.declared.checks.Desk.{Desk}
@@ -30,17 +28,9 @@ module _ (seat : ℕ) (lt : seat < seatCount) where
   pub next-heard : (d : Desk) (s : State) (h : Input) → OfSeats (h .event) → Follows seat lt d s
       → Beside-it d (answerTo s h .written) (nextState s h)
   unfolding answerTo
-  next-heard d s h y f = go (take-cases s (h .event) (h .room))
-    where
-      Is : Result → Type 0
-      Is r = Beside-it d (r .written) (r .state)
-
-      go : Refused s (takeOf s (h .event) (h .room)) ⊎ Takes s (h .event) (h .room)
-          → Is (takeOf s (h .event) (h .room))
-      go (inl r) = rw (r .is) (record { then = d; told = at-end; holds = f })
-      go (inr a) =
-          rw (take-accepts s (h .event) (h .room) a)
-          (event-follows seat lt d s (h .event) y (a .acts .passes) (a .acts .within) f)
+  next-heard d s h y f =
+      take-by s (h .event) (h .room) (Beside-it d) (record { then = d; told = at-end; holds = f })
+      (λ a. event-follows seat lt d s (h .event) y (a .acts .passes) (a .acts .within) f)
 
   -- from any state that the seat follows; a fresh start is not needed
   pub run-heard : (d : Desk) (s : State) (hs : List Input) → Every (λ h. OfSeats (h .event)) hs → Follows seat lt d s

@@ -2,7 +2,6 @@
 use mathlib.Core.Path.{_≡_, refl, ap, _∙_}
 use mathlib.Core.Bool.{Bool, true, false}
 use mathlib.Core.List.{List, [], _∷_, _++_, map, map-append}
-use mathlib.Core.Logic.{_⊎_, inl, inr}
 use Prim.Native.Nat.{ℕ, zero, suc, _+_, _≤_, _<_}
 use native.Mathlib.Omega.{arith}
 use lib.ListN.{length, take, length-append}
@@ -22,7 +21,7 @@ use Rattle.rules.specs.Refusals.{Event, takeOf, stepOf, bytesOf, allBytes}
 use Rattle.rules.specs.Leaving.{largestIn, Action, puts, leaves, putsAll, actionsFrom, actionsOf, withByte, fileAfter}
 use Rattle.rules.specs.Leaving.{leftIn}
 use Rattle.rule_laws.proofs.MarkFile.{last-within}
-use Rattle.rule_laws.proofs.Steps.{Refused, Takes, take-cases, take-accepts, step-by}
+use Rattle.rule_laws.proofs.Steps.{step-by, take-by}
 use Rattle.rule_laws.proofs.Written.{EachMade, every-written}
 use Rattle.rule_laws.proofs.Leaving.{take-largest}
 use Rattle.restart.specs.Before.{leavingLength, frontChecks, beforeChecks, beforeOf, outBefore}
@@ -40,11 +39,8 @@ sixteen-each = record {
 }
 
 take-sixteen : (s : State) (e : Event) (room : ℕ) → Every HasSixteen (takeOf s e room .written)
-take-sixteen s e room = go (take-cases s e room)
-  where
-    go : Refused s (takeOf s e room) ⊎ Takes s e room → Every HasSixteen (takeOf s e room .written)
-    go (inl r) = rw (r .is) none
-    go (inr a) = rw (take-accepts s e room a) (every-written sixteen-each s e)
+take-sixteen s e room =
+    take-by s e room (λ ws t. Every HasSixteen ws) none (λ a. every-written sixteen-each s e)
 
 mark-bytes : (n : ℕ) → length (highBytes n) ≡ highLength
 unfolding highBytes encodeHigh

@@ -1,7 +1,6 @@
 -- Numbers never fall over an event, and rise with every proposal made.
 use mathlib.Core.Path.{_≡_, refl, _∙_}
 use mathlib.Core.Bool.{true}
-use mathlib.Core.Logic.{_⊎_, inl, inr}
 use mathlib.Core.List.{List, [], _∷_, _++_}
 use Prim.Native.Nat.{ℕ, _≤_, _<_}
 use native.Mathlib.Omega.{arith}
@@ -18,7 +17,7 @@ use Rattle.rules.specs.State.{Fast, State, storedAt, acceptedAt, numberIn}
 use Rattle.rules.specs.Refusals.{Event, aReport, aProposal, refusalOf, ruleOf, takeOf, stepOf}
 use Rattle.rule_laws.proofs.Tests.{next-above, slow-above}
 use Rattle.rule_laws.proofs.Walk.{arrived, concludes, Walk, walk-event}
-use Rattle.rule_laws.proofs.Steps.{check-facts, Refused, Takes, take-cases, take-accepts, step-by}
+use Rattle.rule_laws.proofs.Steps.{check-facts, step-by, take-by}
 use Rattle.rules.specs.Rules.{Written, notice, proposal, view, Outcome, nothingWritten, andThen, withNet, opened}
 use Rattle.rules.specs.Rules.{opens, nextNumber, ownProposal, proposed, hasRecipient, proposesFast, received}
 use Rattle.rules.specs.Rules.{proposesSlow, agreed, concluded}
@@ -144,11 +143,7 @@ rises-none s = record { start = le-refl _; numbers = at-end (le-refl _); accepte
 
 -- of an event taken or not, and of a step
 pub take-rises : (s : State) (e : Event) (room : ℕ) → Rises s (takeOf s e room .written) (takeOf s e room .state)
-take-rises s e room = go (take-cases s e room)
-  where
-    go : Refused s (takeOf s e room) ⊎ Takes s e room → Rises s (takeOf s e room .written) (takeOf s e room .state)
-    go (inl r) = rw (r .is) (rises-none s)
-    go (inr a) = rw (take-accepts s e room a) (event-rises s e (a .acts .passes))
+take-rises s e room = take-by s e room (Rises s) (rises-none s) (λ a. event-rises s e (a .acts .passes))
 
 pub step-rises : (s : State) (b : List ℕ) (room : ℕ) → Rises s (stepOf s b room .written) (stepOf s b room .state)
 step-rises s b room = step-by s b room (Rises s) (rises-none s) (λ e. take-rises s e room)

@@ -281,7 +281,17 @@ step-skips s b room n = go (step-cases s b room)
     go (inl r) = (ap (λ (q : Result). q .state) (r .is), ap (λ (q : Result). q .written) (r .is))
     go (inr a) = absurd (n (a .readable))
 
--- what holds of nothing done and of every event taken holds of the step
+-- what holds of nothing done and of the rule of every event that is taken holds of an event, taken or not
+pub take-by : (s : State) (e : Event) (room : ℕ) (P : List Written → State → Type 0) → P [] s
+    → (Takes s e room → P (ruleOf s e .written) (ruleOf s e .state))
+    → P (takeOf s e room .written) (takeOf s e room .state)
+take-by s e room P z h = go (take-cases s e room)
+  where
+    go : Refused s (takeOf s e room) ⊎ Takes s e room → P (takeOf s e room .written) (takeOf s e room .state)
+    go (inl r) = rw (r .is) z
+    go (inr a) = rw (take-accepts s e room a) (h a)
+
+-- what holds of nothing done and of every event, taken or not, holds of the step
 pub step-by : (s : State) (b : List ℕ) (room : ℕ) (P : List Written → State → Type 0) → P [] s
     → ((e : Event) → P (takeOf s e room .written) (takeOf s e room .state))
     → P (stepOf s b room .written) (stepOf s b room .state)

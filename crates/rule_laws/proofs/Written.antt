@@ -2,7 +2,6 @@
 -- members has no number.
 use mathlib.Core.Path.{_≡_, _∙_}
 use mathlib.Core.Bool.{true, false}
-use mathlib.Core.Logic.{_⊎_, inl, inr}
 use mathlib.Core.List.{List, [], _∷_, _++_, append-nil}
 use Prim.Native.Nat.{ℕ, _≤_, _<_}
 use native.Mathlib.Omega.{arith}
@@ -22,7 +21,7 @@ use Rattle.rules.specs.Rules.{startOf, viewOf, concluded}
 use Rattle.records.specs.Numbers.{limit}
 use Rattle.rules.specs.Refusals.{Event, ruleOf, takeOf, stepOf}
 use Rattle.rule_laws.proofs.Tests.{agreed-out, next-above, slow-above}
-use Rattle.rule_laws.proofs.Steps.{SlotWithin, Refused, Takes, well-facts, take-cases, take-accepts, step-by}
+use Rattle.rule_laws.proofs.Steps.{SlotWithin, well-facts, step-by, take-by}
 use Rattle.rule_laws.proofs.Walk.{concludes, Walk, walk-event}
 use Rattle.rule_laws.proofs.Ceiling.{Copied, MadeWithin, Copies, copying, copies-then, made-within, view-starts}
 use Rattle.rule_laws.proofs.Ceiling.{arrived-copied, well-copied, accepted-fits}
@@ -50,11 +49,7 @@ every-then s o f a b = every-append a b
 module _ (S : List Written → Type 0) (z : S []) (h : (s : State) (e : Event) → S (ruleOf s e .written))
     (s : State) where
   of-take : (e : Event) (room : ℕ) → S (takeOf s e room .written)
-  of-take e room = go (take-cases s e room)
-    where
-      go : Refused s (takeOf s e room) ⊎ Takes s e room → S (takeOf s e room .written)
-      go (inl r) = rw (r .is) z
-      go (inr a) = rw (take-accepts s e room a) (h s e)
+  of-take e room = take-by s e room (λ ws t. S ws) z (λ a. h s e)
 
   of-step : (b : List ℕ) (room : ℕ) → S (stepOf s b room .written)
   of-step b room = step-by s b room (λ ws t. S ws) z (λ e. of-take e room)
@@ -211,16 +206,11 @@ writing-within = record {
 
 -- every record that an event taken writes, and every one that a step writes
 pub take-within : (s : State) (e : Event) (room : ℕ) → Every RecordWithin (takeOf s e room .written)
-take-within s e room = go (take-cases s e room)
-  where
-    go : Refused s (takeOf s e room) ⊎ Takes s e room → Every RecordWithin (takeOf s e room .written)
-    go (inl r) = rw (r .is) none
-    go (inr a) =
-        let f = well-facts _ (a .acts .within) in
-        rw (take-accepts s e room a)
-        (walk-event writing-within s e .within
-        (arrived-copied s e (accepted-fits s e (a .acts .passes)) (well-copied s (a .well)))
-        (record { start = f .start; number = f .number; view = f .view }))
+take-within s e room = take-by s e room (λ ws t. Every RecordWithin ws) none (λ a.
+    let f = well-facts _ (a .acts .within) in
+    walk-event writing-within s e .within
+    (arrived-copied s e (accepted-fits s e (a .acts .passes)) (well-copied s (a .well)))
+    (record { start = f .start; number = f .number; view = f .view }))
 
 pub records-within : (s : State) (b : List ℕ) (room : ℕ) → Every RecordWithin (stepOf s b room .written)
 records-within s b room = step-by s b room (λ ws t. Every RecordWithin ws) none (λ e. take-within s e room)

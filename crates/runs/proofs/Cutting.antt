@@ -20,7 +20,7 @@ use Rattle.rules.specs.Leaving.{ownNumber}
 use Rattle.rules.specs.Refusals.{Event, aReport, aProposal, takeOf}
 use Rattle.rule_laws.proofs.Parts.{restarted-reads}
 use Rattle.rule_laws.proofs.Walk.{arrived-used}
-use Rattle.rule_laws.proofs.Steps.{Refused, Takes, take-accepts, take-cases, restarted-well}
+use Rattle.rule_laws.proofs.Steps.{restarted-well, take-by}
 use Rattle.rule_laws.proofs.Monotone.{Ascending, at-end, past-notice, past-view, past-proposal, take-rises}
 use Rattle.runs.specs.World.{Item, World, Underway, nothing-begun, begun-report, begun-delivery, WorldEvent, cut}
 use Rattle.runs.specs.World.{without, answered, withLink, frontWrites, begunWrites, takenUp, cutAnswer, next}
@@ -71,12 +71,8 @@ made-tells s t u e p m o lt =
     rw (m .used o lt) (if-le (serves (t .net .bits) o) (usedAt t o) 0 (usedAt s o) (omega arith) (omega arith))
 
 take-tells : (s : State) (e : Event) (room : ℕ) → EachProposal (TellsOf (usedAt s)) (takeOf s e room .written)
-take-tells s e room = go (take-cases s e room)
-  where
-    go : Refused s (takeOf s e room) ⊎ Takes s e room → EachProposal (TellsOf (usedAt s)) (takeOf s e room .written)
-    go (inl r) = rw (r .is) none
-    go (inr a) =
-        rw (take-accepts s e room a) (each-map (made-tells s _ _ (arrived-used s e)) (makes-event s e .sends))
+take-tells s e room = take-by s e room (λ ws t. EachProposal (TellsOf (usedAt s)) ws) none
+    (λ a. each-map (made-tells s _ _ (arrived-used s e)) (makes-event s e .sends))
 
 -- what is at or above all that left
 top-le : (k n : ℕ) (ws : List Written) → n ≤ k → Every (λ w. ownNumber w ≤ k) ws → topAfter ws n ≤ k

@@ -1,6 +1,5 @@
 -- The proposals that an office sends fit their records, where the sets handed to it are sets of seats.
 use mathlib.Core.Path.{_≡_, _∙_}
-use mathlib.Core.Logic.{_⊎_, inl, inr}
 use mathlib.Core.List.{List, List·Memᴰ}
 use Prim.Native.Nat.{ℕ, _^_, _≤_, _<_}
 use native.Mathlib.Omega.{arith}
@@ -16,9 +15,9 @@ use Rattle.records.specs.declared.Proposal.{Proposal}
 use Rattle.records.proofs.RoundTrip.{report-fits}
 use Rattle.rules.specs.State.{State, usedAt}
 use Rattle.rules.specs.Rules.{proposal, restarted, netAfter}
-use Rattle.rules.specs.Refusals.{Event, aReport, aProposal, eventOf, ruleOf, Result, takeOf}
+use Rattle.rules.specs.Refusals.{Event, aReport, aProposal, eventOf, ruleOf}
 use Rattle.rule_laws.proofs.Parts.{withNet-reads, received-reads, restarted-reads, net-after-fits}
-use Rattle.rule_laws.proofs.Steps.{well-facts, Refused, Takes, take-cases, take-accepts}
+use Rattle.rule_laws.proofs.Steps.{well-facts, take-by}
 use Rattle.rule_laws.proofs.Walk.{arrived, arrived-own, arrived-used}
 use Rattle.runs.specs.Office.{Input, OfSeats, answerTo, nextState, Turn, handedAt, leftOver}
 use Rattle.runs.proofs.EachSent.{each-left}
@@ -47,26 +46,17 @@ module _ (own : ℕ) (lt : own < 16) where
   answer-seats : (s : State) (h : Input) → OfSeats (h .event) → OwnSeats own s
       → OwnSeats own (nextState s h) × EachProposal FitsProposal (answerTo s h .written)
   unfolding answerTo
-  answer-seats s h fits f = go (take-cases s e (h .room))
-    where
-      e : Event
-      e = h .event
-
-      Is : Result → Type 0
-      Is r = OwnSeats own (r .state) × EachProposal FitsProposal (r .written)
-
-      go : Refused s (takeOf s e (h .room)) ⊎ Takes s e (h .room) → Is (takeOf s e (h .room))
-      go (inl r) = rw (r .is) (f, none)
-      go (inr a) =
-          let g = arrived-seats s e fits f in
-          let m = makes-event s e in
-          let within : (o : ℕ) → o < 16 → usedAt (arrived s e) o ≤ limit
-          = λ o l. rw (arrived-used s e o l) (well-facts s (a .well) .used o l) in
-          rw (take-accepts s e (h .room) a) (
-            record { office = m .own ∙ g .office; net = rw (m .net) (g .net) },
-            each-map (made-fits (arrived s e) (ruleOf s e .state) own (g .office) lt (g .net) within
-                (well-facts _ (a .acts .within))) (m .sends),
-          )
+  answer-seats s h fits f =
+      let e = h .event in
+      take-by s e (h .room) (λ ws t. OwnSeats own t × EachProposal FitsProposal ws) (f, none) (λ a.
+      let g = arrived-seats s e fits f in
+      let m = makes-event s e in
+      let within : (o : ℕ) → o < 16 → usedAt (arrived s e) o ≤ limit
+      = λ o l. rw (arrived-used s e o l) (well-facts s (a .well) .used o l) in (
+        record { office = m .own ∙ g .office; net = rw (m .net) (g .net) },
+        each-map (made-fits (arrived s e) (ruleOf s e .state) own (g .office) lt (g .net) within
+            (well-facts _ (a .acts .within))) (m .sends),
+      ))
 
   restarted-seats : (m : ℕ) → OwnSeats own (restarted own m)
   restarted-seats m =

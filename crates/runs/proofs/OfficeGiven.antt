@@ -2,7 +2,6 @@
 -- that left before, cuts or not.
 use mathlib.Core.Path.{_≡_, refl, sym, ap, _∙_}
 use mathlib.Core.Bool.{Bool, true, false}
-use mathlib.Core.Logic.{_⊎_, inl, inr}
 use mathlib.Core.List.{List, [], _∷_, _++_}
 use Prim.Native.Nat.{ℕ, zero, suc, _+_, _≤_, _<_}
 use native.Mathlib.Omega.{arith}
@@ -20,11 +19,11 @@ use Rattle.rules.specs.Rules.{Written, notice, proposal, view, Outcome, nothing
 use Rattle.rules.specs.Rules.{inSlot, netAfter, withNet, seated, opened, noticeOf, opens, nextNumber, ownProposal}
 use Rattle.rules.specs.Rules.{proposed, hasRecipient, proposesFast, received, beginsIn, slowNumber, proposesSlow}
 use Rattle.rules.specs.Rules.{agreed, startOf, viewOf, reportRule, proposalRule}
-use Rattle.rules.specs.Refusals.{Event, aReport, aProposal, refusalOf, ruleOf, Result, takeOf}
+use Rattle.rules.specs.Refusals.{Event, aReport, aProposal, refusalOf, ruleOf}
 use Rattle.rule_laws.proofs.Parts.{restarted-reads, restarted-view, fresh-restarted, proposed-reads}
 use Rattle.rule_laws.proofs.Parts.{received-reads, concluded-reads, made-is}
 use Rattle.rule_laws.proofs.Tests.{agreed-out, next-above, slow-above}
-use Rattle.rule_laws.proofs.Steps.{Passes, check-facts, Refused, Takes, take-cases, take-accepts}
+use Rattle.rule_laws.proofs.Steps.{Passes, check-facts, take-by}
 use Rattle.rule_laws.proofs.Walk.{slowRound, concludes, Tested, staged-report, staged-proposal}
 use Rattle.runs.specs.Office.{Input, answerTo, nextState, Turn, leftOver, TurnsAbove, ofProposal}
 use Rattle.runs.specs.Office.{ofNotice, ofView, picked, Ascends, no-number, a-number, NumbersOnce}
@@ -317,14 +316,9 @@ event-stands g s (aProposal p) z f = proposal-stands g s p (check-facts s p z) f
 answer-stands : (g : Given) (s : State) (h : Input) → Stands g s
     → Beside GivesOut Stands g (answerTo s h .written) (nextState s h)
 unfolding answerTo
-answer-stands g s h f = go (take-cases s (h .event) (h .room))
-  where
-    Is : Result → Type 0
-    Is r = Beside GivesOut Stands g (r .written) (r .state)
-
-    go : Refused s (takeOf s (h .event) (h .room)) ⊎ Takes s (h .event) (h .room) → Is (takeOf s (h .event) (h .room))
-    go (inl r) = rw (r .is) (record { then = g; told = gives-none; holds = f })
-    go (inr a) = rw (take-accepts s (h .event) (h .room) a) (event-stands g s (h .event) (a .acts .passes) f)
+answer-stands g s h f =
+    take-by s (h .event) (h .room) (Beside GivesOut Stands g) (record { then = g; told = gives-none; holds = f })
+    (λ a. event-stands g s (h .event) (a .acts .passes) f)
 
 -- a restart
 restart-stands : (g : Given) (own m : ℕ) → own < 16 → UpTo g m → Stands g (restarted own m)

@@ -1,7 +1,6 @@
 -- No proposal that an office sends claims to have used itself: whatever is handed to the office, wherever it is cut
 -- off, and at whatever numbers it begins.
 use mathlib.Core.Path.{_≡_, sym, ap, _∙_}
-use mathlib.Core.Logic.{_⊎_, inl, inr}
 use mathlib.Core.List.{List, List·Memᴰ}
 use Prim.Native.Nat.{ℕ, _≤_, _<_}
 use native.Mathlib.Omega.{arith}
@@ -15,12 +14,12 @@ use Rattle.records.specs.declared.Proposal.{Proposal}
 use Rattle.rules.specs.State.{Mode, Fast, Slow, Slot, State, nothing, keeping, storedAt, usedAt, usedFor, numberIn}
 use Rattle.rules.specs.Rules.{proposal, Outcome, andThen, restarted, netAfter, opened, opens, nextNumber}
 use Rattle.rules.specs.Rules.{ownProposal, proposed, proposesFast, slowNumber, proposesSlow, concluded}
-use Rattle.rules.specs.Refusals.{Event, aReport, aProposal, refusalOf, ruleOf, Result, takeOf}
+use Rattle.rules.specs.Refusals.{Event, aReport, aProposal, refusalOf, ruleOf, takeOf}
 use Rattle.rule_laws.proofs.Parts.{withNet-reads, opened-reads, proposed-reads, received-reads, concluded-reads}
 use Rattle.rule_laws.proofs.Parts.{restarted-reads, made-is}
 use Rattle.rule_laws.proofs.SelfUse.{only-19}
 use Rattle.rule_laws.proofs.Tests.{next-above, slow-above}
-use Rattle.rule_laws.proofs.Steps.{check-facts, Refused, Takes, take-cases, take-accepts}
+use Rattle.rule_laws.proofs.Steps.{check-facts, take-by}
 use Rattle.rule_laws.proofs.Walk.{arrived, arrived-own, arrived-number, arrived-used, Walk, walk-event}
 use Rattle.runs.specs.Office.{Input, answerTo, nextState, Turn, leftOver}
 use Rattle.runs.specs.World.{Item, WorldEvent, atFirst, run}
@@ -100,24 +99,14 @@ module _ (own : ℕ) (lt : own < 16) where
   answer-own-used : (s : State) (h : Input) → OwnUsed own s
       → OwnUsed own (nextState s h) × EachProposal UsedBelow (answerTo s h .written)
   unfolding answerTo
-  answer-own-used s h f = go (take-cases s e (h .room))
-    where
-      e : Event
-      e = h .event
-
-      Is : Result → Type 0
-      Is r = OwnUsed own (r .state) × EachProposal UsedBelow (r .written)
-
-      go : Refused s (takeOf s e (h .room)) ⊎ Takes s e (h .room) → Is (takeOf s e (h .room))
-      go (inl r) = rw (r .is) (f, none)
-      go (inr a) =
-          let g = arrived-own-used s e (a .acts .passes) f in
-          let m = makes-event s e in
-          rw (take-accepts s e (h .room) a) (
-            walk-event own-used s e g,
-            each-map (λ p k. rw (k .sender ∙ g .office)
-                (made-below (arrived s e) (ruleOf s e .state) own lt (g .used) p k)) (m .sends),
-          )
+  answer-own-used s h f =
+      let e = h .event in
+      take-by s e (h .room) (λ ws t. OwnUsed own t × EachProposal UsedBelow ws) (f, none) (λ a.
+      let g = arrived-own-used s e (a .acts .passes) f in (
+        walk-event own-used s e g,
+        each-map (λ p k. rw (k .sender ∙ g .office)
+            (made-below (arrived s e) (ruleOf s e .state) own lt (g .used) p k)) (makes-event s e .sends),
+      ))
 
   restarted-own-used : (m : ℕ) → OwnUsed own (restarted own m)
   restarted-own-used m =

@@ -16,14 +16,14 @@ use Rattle.records.specs.declared.Report.{Report}
 use Rattle.records.specs.declared.Proposal.{Proposal}
 use Rattle.records.specs.declared.View.{View}
 use Rattle.rules.specs.State.{Mode, None, Fast, Slow, Slot, State, storedAt, usedAt}
-use Rattle.rules.specs.Rules.{notice, proposal, view, Outcome, nothingWritten, andThen, fresh, netAfter, withNet}
-use Rattle.rules.specs.Rules.{opened, noticeOf, opens, nextNumber, proposesFast, received, inSlot}
+use Rattle.rules.specs.Rules.{Written, notice, proposal, view, Outcome, nothingWritten, andThen, fresh, netAfter}
+use Rattle.rules.specs.Rules.{withNet, opened, noticeOf, opens, nextNumber, proposesFast, received, inSlot}
 use Rattle.rules.specs.Rules.{slowCalled, beginsIn, slowNumber, proposesSlow, slowTest, agreed, startOf, viewOf}
 use Rattle.rules.specs.Rules.{concluded, reportRule, proposalRule}
-use Rattle.rules.specs.Refusals.{Event, aReport, aProposal, refusalOf, ruleOf, Result, takeOf}
+use Rattle.rules.specs.Refusals.{Event, aReport, aProposal, refusalOf, ruleOf}
 use Rattle.rule_laws.proofs.Parts.{fresh-reads, concluded-reads}
 use Rattle.rule_laws.proofs.Tests.{next-above, slow-above, agreed-out}
-use Rattle.rule_laws.proofs.Steps.{check-facts, Refused, Takes, take-cases, take-accepts}
+use Rattle.rule_laws.proofs.Steps.{check-facts, take-by}
 use Rattle.rule_laws.proofs.Written.{NoView, fast-every}
 use Rattle.rule_laws.proofs.Walk.{slowRound, concludes, Tested, staged-report, staged-proposal}
 use Rattle.runs.specs.Office.{Input, answerTo, nextState, LogEntry, answerOf, logOf, Before, testedIn, testedAt}
@@ -176,17 +176,12 @@ event-ends s (aProposal p) z = proposal-ends s p z
 pub answer-ends : (s : State) (h : Input) → Renews s (nextState s h)
     × ((v : View) → List·Memᴰ (view v) (answerTo s h .written) → ViewSent s (testedIn s (h .event)) v (nextState s h))
 unfolding answerTo
-answer-ends s h = go (take-cases s (h .event) (h .room))
+answer-ends s h =
+    take-by s (h .event) (h .room) Ends (renews-none s, λ v m. absurd (List·Memᴰ·not-nil m))
+    (λ a. let x = event-ends s (h .event) (a .acts .passes) in (x .renews, x .shows))
   where
-    Ends : Result → Type 0
-    Ends r = Renews s (r .state)
-        × ((v : View) → List·Memᴰ (view v) (r .written) → ViewSent s (testedIn s (h .event)) v (r .state))
-
-    go : Refused s (takeOf s (h .event) (h .room)) ⊎ Takes s (h .event) (h .room)
-        → Ends (takeOf s (h .event) (h .room))
-    go (inl r) = rw (r .is) (renews-none s, λ v m. absurd (List·Memᴰ·not-nil m))
-    go (inr a) = let x = event-ends s (h .event) (a .acts .passes) in
-        rw (take-accepts s (h .event) (h .room) a) (x .renews, x .shows)
+    Ends : List Written → State → Type 0
+    Ends ws t = Renews s t × ((v : View) → List·Memᴰ (view v) ws → ViewSent s (testedIn s (h .event)) v t)
 
 -- no stored proposal has a number above the last one known of its office
 abbrev pub WithinLast : State → Type 0

@@ -23,7 +23,7 @@ use Rattle.rules.specs.Rules.{Written, notice, proposal, view, Outcome, nothing
 use Rattle.rules.specs.Rules.{netAfter, repeats, seated, ownProposal, proposed, opens, slowNumber, nextNumber}
 use Rattle.rules.specs.Rules.{proposesSlow, proposesFast, received, reportRule, proposalRule}
 use Rattle.rules.specs.Refusals.{Event, aReport, ruleOf, takeOf}
-use Rattle.rule_laws.proofs.Steps.{Refused, Takes, take-accepts, take-cases}
+use Rattle.rule_laws.proofs.Steps.{take-by}
 use Rattle.rule_laws.proofs.Parts.{withNet-reads, opened-reads, proposed-reads, received-reads, concluded-reads}
 use Rattle.rule_laws.proofs.Parts.{made-is, made-used}
 use Rattle.rule_laws.proofs.Repeats.{repeat-state, again-repeats}
@@ -301,12 +301,7 @@ proposal-net s p = makes-proposal s p .net ∙ received-reads s p .net-is
 -- an answer of any office keeps the own office, and the proposals name it
 pub step-names : (s : State) (e : Event) (room : ℕ)
     → (takeOf s e room .state .own ≡ s .own) × EachProposal (λ p. p .sender ≡ s .own) (takeOf s e room .written)
-step-names s e room = go (take-cases s e room)
-  where
-    go : Refused s (takeOf s e room) ⊎ Takes s e room
-        → (takeOf s e room .state .own ≡ s .own) × EachProposal (λ p. p .sender ≡ s .own) (takeOf s e room .written)
-    go (inl r) = rw (r .is) (refl, none)
-    go (inr a) =
-        let m = makes-event s e in
-        let own = arrived-own s e in
-        rw (take-accepts s e room a) (m .own ∙ own, each-map (λ p k. k .sender ∙ own) (m .sends))
+step-names s e room = take-by s e room (λ ws t. (t .own ≡ s .own) × EachProposal (λ p. p .sender ≡ s .own) ws)
+    (refl, none)
+    (λ a. let m = makes-event s e in let own = arrived-own s e in
+    (m .own ∙ own, each-map (λ p k. k .sender ∙ own) (m .sends)))

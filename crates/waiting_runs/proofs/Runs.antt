@@ -1,17 +1,15 @@
 -- Over every run of one office from fresh, after each event: the answer is never that the agreement test is met, and
 -- never the own office.
 use mathlib.Core.Path.{_≡_, refl, sym, _∙_}
-use mathlib.Core.Logic.{_⊎_, inl, inr}
 use mathlib.Core.List.{List}
 use Prim.Native.Nat.{ℕ}
 use native.Mathlib.Omega.{arith}
 use Rattle.laws.proofs.Fin.{true-false}
 use Rattle.rules.specs.State.{State}
 use Rattle.rules.specs.Rules.{fresh}
-use Rattle.rules.specs.Refusals.{takeOf}
 use Rattle.rule_laws.proofs.Parts.{fresh-reads}
 use Rattle.rule_laws.proofs.Tests.{agreeing-in}
-use Rattle.rule_laws.proofs.Steps.{well-facts, Refused, Takes, take-cases, take-accepts}
+use Rattle.rule_laws.proofs.Steps.{well-facts, take-by}
 use Rattle.runs.specs.Office.{Input, answerTo, nextState, stateAfter}
 use Rattle.runs.proofs.OfficeRuns.{after-keeps}
 use Rattle.runs.proofs.OfficeViews.{answer-ends}
@@ -23,14 +21,8 @@ use Rattle.waiting_runs.proofs.Awaits.{Awaits, event-awaits}
 
 awaits-next : (s : State) (h : Input) → Awaits s → Awaits (nextState s h)
 unfolding answerTo
-awaits-next s h k = go (take-cases s (h .event) (h .room))
-  where
-    go : Refused s (takeOf s (h .event) (h .room)) ⊎ Takes s (h .event) (h .room)
-        → Awaits (takeOf s (h .event) (h .room) .state)
-    go (inl r) = rw (r .is) k
-    go (inr a) =
-        rw (take-accepts s (h .event) (h .room) a)
-        (event-awaits s (h .event) (well-facts s (a .well) .own) (a .acts .passes) k)
+awaits-next s h k = take-by s (h .event) (h .room) (λ ws t. Awaits t) k
+    (λ a. event-awaits s (h .event) (well-facts s (a .well) .own) (a .acts .passes) k)
 
 awaits-fresh : (own : ℕ) → Awaits (fresh own)
 awaits-fresh own = let none = fresh-reads own .mode-is in
