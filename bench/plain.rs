@@ -1,5 +1,6 @@
-// The program of document 01 in good plain Rust, what `room` is timed against: the state in place, check 2 on every event, 13 decided
-// before the first change, lines by a small decimal writer.
+// The program of document 01 in good plain Rust, what `room` is timed against: the state in place, check 2 on every
+// event, 13 decided before the first change, lines by a small decimal writer. With --cfg unchecked it is without
+// check 2, since the state is its own.
 use std::io::{Read, Write};
 const L: u32 = 2_000_000_000;
 const FAST: u8 = 1;
@@ -150,7 +151,7 @@ impl Office {
     }
     fn step(&mut self, record: &[u8], room: usize, out: &mut Out) -> u8 {
         out.n = 0;
-        if self.malformed() {
+        if cfg!(not(unchecked)) && self.malformed() {
             return 2;
         }
         if room < 182 {
@@ -240,7 +241,8 @@ impl Office {
         }
         (slow | uses, above)
     }
-    // All is decided before anything changes; the own proposals of the plan and the one received stand for their slots.
+    // All is decided before anything changes; the own proposals of the plan and the one received stand for their
+    // slots.
     #[inline(always)]
     fn finish(&mut self, net: u64, mut plan: Plan, received: Option<&Proposal>, out: &mut Out) -> u8 {
         let number = if plan.slow > 0 {

@@ -3,9 +3,10 @@
  * A child kills itself after a number of actions, an action being one byte put into the file or one record sent. Those
  * rounds are the same in every run, and what must come is counted in them. Or its parent kills it at a moment, which
  * is another in every run. Children that do one thing wrong must each be caught by the same checks.
- * Argument: the directory for the file, else TMPDIR, else the working directory. The last line is 'N passed, M failed'. */
+ * Argument: the directory for the file, else TMPDIR, else the working directory. The last line is 'N passed, M
+ * failed'. */
 #define _POSIX_C_SOURCE 200809L
-#include "room.h"
+#include "room_words.h"
 
 #include <errno.h>
 #include <fcntl.h>
@@ -19,17 +20,13 @@
 #include <time.h>
 #include <unistd.h>
 
-#define L 2000000000u
-#define MARGIN 1000000u
-#define ROOM 182
-#define SEATS 4           /* of an office */
+#define L ((uint32_t)ROOM_LIMIT)
+#define MARGIN ((uint32_t)ROOM_MARK_MARGIN)
+#define SEATS ROOM_OFFICE_SEATS
 #define FULL_FILE 2000    /* marks, each little more than 1,000,000 above the one before it, and the last is L */
 #define LONGEST_WAIT 3000 /* microseconds until a parent kills */
 #define PAIRS 40          /* more than the 33 actions of an answer with three marks */
 #define IDLE 64           /* so many events in a row that nothing left after: nothing will */
-
-/* Places in the words of a state: docs/LAYOUT.md. */
-enum { NET = 2, START = 86, NUMBER = 87, VIEW_NUMBER = 88, ACCEPTED = 105 };
 
 /* What a child does wrong. */
 enum wrong { NOTHING, RECORD_FIRST, NINE_BYTES, ONCE, OWN_NUMBERS, OLD_MARK, APPENDS, FRESH, OWN_USED };
@@ -98,21 +95,6 @@ static uint64_t draw(void) {
 
 static uint32_t below(uint32_t bound) { return (uint32_t)(draw() % bound); }
 
-/* Numbers in a record are stored most significant byte first. */
-static void put(uint8_t *at, int bytes, uint64_t number) {
-    for (int i = 0; i < bytes; i++) {
-        at[i] = (uint8_t)(number >> (8 * (bytes - 1 - i)));
-    }
-}
-
-static uint64_t get(const uint8_t *at, int bytes) {
-    uint64_t number = 0;
-    for (int i = 0; i < bytes; i++) {
-        number = number << 8 | at[i];
-    }
-    return number;
-}
-
 static uint64_t seats_of(unsigned office) { return (uint64_t)15 << (SEATS * office); }
 
 /* The child: an office with its file, from its begin to the cut. */
@@ -120,6 +102,9 @@ struct child {
     const struct plan *plan;
     uint8_t office;
     uint32_t state[ROOM_STATE_WORDS];
+    uint64_t net;           /* the net view, by the reports that were accepted */
+    uint32_t start, number; /* the last start number and proposal number that it was told to send */
+    uint32_t accepted[ROOM_OFFICES];
     int file, pipe;
     uint32_t last;    /* the last mark */
     size_t place;     /* where the next one belongs */
@@ -166,19 +151,19 @@ static void keep(struct child *c, const uint8_t *mark, size_t from, size_t to) {
 
 /* The largest number that is the office's own. */
 static uint32_t own_number(const uint8_t *record) {
-    if (memcmp(record, "PR", 2) != 0) {
-        return (uint32_t)get(record + 2, 4);
+    struct room_proposal p;
+    if (!room_proposal_read(record, ROOM_PROPOSAL_BYTES, &p)) {
+        return room_get_number(record + 2);
     }
-    uint32_t start = (uint32_t)get(record + 12, 4), number = (uint32_t)get(record + 16, 4);
-    return start > number ? start : number;
+    return p.start > p.number ? p.start : p.number;
 }
 
 /* A record leaves by one write, under PIPE_BUF and so whole; before it, its mark. */
 static void leave(struct child *c, const uint8_t *record, size_t size, const uint8_t *mark, bool more) {
     size_t before = c->plan->wrong == RECORD_FIRST ? 0 : c->plan->wrong == NINE_BYTES ? 9 : ROOM_MARK_BYTES;
-    uint8_t sent[84];
+    uint8_t sent[ROOM_PROPOSAL_BYTES];
     memcpy(sent, record, size);
-    if (c->plan->wrong == OWN_USED && size == 84) {
+    if (c->plan->wrong == OWN_USED && size == ROOM_PROPOSAL_BYTES) {
         memcpy(sent + 20 + 4 * c->office, sent + 16, 4);
     }
     if (mark != NULL) {
@@ -196,61 +181,66 @@ static void leave(struct child *c, const uint8_t *record, size_t size, const uin
 
 /* What the step wrote, record by record, as the header says. */
 static void send_answer(struct child *c, const uint8_t *out, size_t written) {
-    size_t size;
+    struct room_sent s = room_sent_in(out, written);
+    struct room_proposal p;
+    struct room_notice n;
     c->note.nth = 0;
-    for (size_t at = 0; at < written; at += size) {
+    while (room_next(&s)) {
         uint8_t mark[ROOM_MARK_BYTES];
-        uint64_t before = room_mark_before(c->last, out + at, written - at, mark, sizeof mark);
-        uint32_t next = (uint32_t)(before / 65536);
-        size = before / 256 % 256;
-        if (before % 256 != 0 || size == 0 || size > written - at) {
+        uint64_t before = room_mark_before(c->last, s.bytes, s.length + s.left, mark, sizeof mark);
+        uint32_t next = room_before_mark(before);
+        if (room_refused(before) || room_before_length(before) != s.length) {
             give_up();
         }
-        bool due = next != c->last, foreign = due && own_number(out + at) <= c->last;
-        if ((c->plan->wrong == OWN_NUMBERS && foreign) || (c->plan->wrong == ONCE && at > 0)) {
+        bool due = next != c->last, foreign = due && own_number(s.bytes) <= c->last;
+        if ((c->plan->wrong == OWN_NUMBERS && foreign) || (c->plan->wrong == ONCE && s.bytes != out)) {
             due = false;
         }
         c->note.foreign += foreign;
-        leave(c, out + at, size, due ? mark : NULL, at + size < written);
+        c->start = room_notice_read(s.bytes, s.length, &n) ? n.start : c->start;
+        c->number = room_proposal_read(s.bytes, s.length, &p) ? p.number : c->number;
+        leave(c, s.bytes, s.length, due ? mark : NULL, s.left > 0);
         if (due && c->plan->wrong != OLD_MARK) {
             c->last = next;
         }
     }
-    c->note.answers[c->note.nth]++;
-    c->note.twice += written == 14 + 84 + 84;
-    c->note.viewed += written == 14 + 84 + 78;
-}
-
-static void hand(struct child *c, const uint8_t *record, size_t length) {
-    uint8_t out[ROOM];
-    uint32_t answer = room_step(c->state, ROOM_STATE_WORDS, record, length, out, sizeof out);
-    c->note.refused += answer % 256 == 13;
-    c->note.self_uses += answer % 256 == 19;
-    if (answer / 256 > 0) {
-        send_answer(c, out, answer / 256);
+    if (s.left > 0) {
+        give_up();
     }
+    c->note.answers[c->note.nth]++;
+    c->note.twice += written == ROOM_NOTICE_BYTES + 2 * ROOM_PROPOSAL_BYTES;
+    c->note.viewed += written == ROOM_NOTICE_BYTES + ROOM_PROPOSAL_BYTES + ROOM_VIEW_BYTES;
 }
 
-static uint64_t net_view(const struct child *c) { return c->state[NET] | (uint64_t)c->state[NET + 1] << 32; }
+static unsigned hand(struct child *c, const uint8_t *record, size_t length) {
+    uint8_t out[ROOM_OUTPUT_BYTES];
+    uint32_t answer = room_step(c->state, ROOM_STATE_WORDS, record, length, out, sizeof out);
+    c->note.refused += room_refused(answer) == ROOM_REFUSED_CEILING;
+    c->note.self_uses += room_refused(answer) == ROOM_REFUSED_SELF_USE;
+    if (room_value(answer) > 0) {
+        send_answer(c, out, room_value(answer));
+    }
+    return room_refused(answer);
+}
 
 /* Seats of this office, seldom none, and either those of others as they are or of up to two others. */
 static uint64_t some_members(const struct child *c) {
     uint64_t members = seats_of(c->office) & draw();
     if (below(2) == 0) {
-        return members | (net_view(c) & ~seats_of(c->office));
+        return members | (c->net & ~seats_of(c->office));
     }
     for (uint32_t others = below(3); others > 0; others--) {
-        members |= seats_of((c->office + 1 + below(3)) % 16) & draw();
+        members |= seats_of((c->office + 1 + below(3)) % ROOM_OFFICES) & draw();
     }
     return members;
 }
 
 /* A report that makes the net view these members. */
 static void hand_report(struct child *c, uint64_t members) {
-    uint8_t report[18] = "NE";
-    put(report + 2, 8, members);
-    put(report + 10, 8, net_view(c) & ~members);
-    hand(c, report, sizeof report);
+    uint8_t report[ROOM_REPORT_BYTES];
+    if (!hand(c, report, room_report_write(members, c->net & ~members, report, sizeof report))) {
+        c->net = members;
+    }
 }
 
 /* A number that another office may have reached: at the last mark, near the own number, or ahead. */
@@ -258,7 +248,7 @@ static uint32_t some_number(const struct child *c) {
     uint64_t number = (uint64_t)c->last + below(c->plan->reach + 1);
     switch (below(4)) {
     case 0: number = (uint64_t)c->last + (c->plan->reach > 0) - below(3); break;
-    case 1: number = (uint64_t)c->state[NUMBER] + below(3); break;
+    case 1: number = (uint64_t)c->number + below(3); break;
     }
     return number == 0 || number > UINT64_MAX - 3 ? 1 : number > L ? L : (uint32_t)number;
 }
@@ -266,16 +256,14 @@ static uint32_t some_number(const struct child *c) {
 /* Now and then it uses the own number, so that proposals cross. */
 static void hand_proposal(struct child *c, unsigned sender, uint8_t kind, uint64_t members, uint32_t start,
                           uint32_t number) {
-    uint8_t proposal[84] = {'P', 'R', (uint8_t)sender, kind};
-    if (number <= c->state[ACCEPTED + sender]) {
-        number = c->state[ACCEPTED + sender] + 1;
+    uint8_t record[ROOM_PROPOSAL_BYTES];
+    struct room_proposal p = {.sender = (uint8_t)sender, .kind = kind, .members = members, .start = start};
+    p.number = number > c->accepted[sender] ? number : c->accepted[sender] + 1;
+    p.used[c->office] = below(4) == 0 ? c->number : 0;
+    p.used[sender] = below(2) == 0 ? p.number - 1 : 0;
+    if (!hand(c, record, room_proposal_write(&p, record, sizeof record))) {
+        c->accepted[sender] = p.number;
     }
-    put(proposal + 4, 8, members);
-    put(proposal + 12, 4, start);
-    put(proposal + 16, 4, number);
-    put(proposal + 20 + 4 * c->office, 4, below(4) == 0 ? c->state[NUMBER] : 0);
-    put(proposal + 20 + 4 * sender, 4, below(2) == 0 ? number - 1 : 0);
-    hand(c, proposal, sizeof proposal);
 }
 
 /* Each other office of the members, seldom one less, proposes them. Slow ones all have one number, as slow agreement
@@ -283,7 +271,7 @@ static void hand_proposal(struct child *c, unsigned sender, uint8_t kind, uint64
 static void hand_proposals(struct child *c, uint64_t members) {
     uint8_t kind = below(3) == 0 ? 2 : 1;
     uint32_t together = some_number(c);
-    for (unsigned o = 0; o < 16; o++) {
+    for (unsigned o = 0; o < ROOM_OFFICES; o++) {
         if (o != c->office && (seats_of(o) & members) != 0 && below(8) > 0) {
             hand_proposal(c, o, kind, members, some_number(c), kind == 2 ? together : some_number(c));
         }
@@ -293,14 +281,15 @@ static void hand_proposals(struct child *c, uint64_t members) {
 /* Seats of this office and the next, other than the net view. */
 static uint64_t two_offices(const struct child *c) {
     uint64_t own = seats_of(c->office), first = own & -own;
-    return ((net_view(c) ^ first) & own) | first << 1 | (seats_of((c->office + 1) % 16) & 0x1111111111111111);
+    uint64_t next = seats_of((c->office + 1) % ROOM_OFFICES);
+    return ((c->net ^ first) & own) | first << 1 | (next & 0x1111111111111111);
 }
 
 /* A proposal that is there before the report, and so far ahead that the first answer after a restart has a notice, a
  * proposal and a view with a mark for each. */
 static void leap(struct child *c) {
     uint64_t members = two_offices(c);
-    hand_proposal(c, (c->office + 1) % 16, 1, members, c->last + 3 * MARGIN, c->last + MARGIN / 2 * 3);
+    hand_proposal(c, (c->office + 1) % ROOM_OFFICES, 1, members, c->last + 3 * MARGIN, c->last + MARGIN / 2 * 3);
     hand_report(c, members);
 }
 
@@ -308,7 +297,7 @@ static void leap(struct child *c) {
 static void use(struct child *c) {
     uint64_t members = two_offices(c);
     hand_report(c, members);
-    hand_proposal(c, (c->office + 1) % 16, 1, members, c->state[START] + 1, c->last + MARGIN / 2);
+    hand_proposal(c, (c->office + 1) % ROOM_OFFICES, 1, members, c->start + 1, c->last + MARGIN / 2);
     hand_report(c, two_offices(c));
 }
 
@@ -324,7 +313,7 @@ static void event(struct child *c) {
         hand_proposals(c, members);
         hand_report(c, members);
     } else if (kind < 6) {
-        hand_proposals(c, net_view(c));
+        hand_proposals(c, c->net);
     } else {
         hand_report(c, some_members(c));
     }
@@ -344,7 +333,8 @@ static void begin(struct child *c) {
     if (refusal != 0) {
         give_up();
     }
-    c->last = (uint32_t)(room_last_mark(bytes, length) / 256);
+    c->last = (uint32_t)room_value(room_last_mark(bytes, length));
+    c->start = c->number = room_view_number(c->state, ROOM_STATE_WORDS);
     c->place = length / ROOM_MARK_BYTES * ROOM_MARK_BYTES;
     c->tail = length - c->place;
     if (c->plan->wrong == APPENDS) {
@@ -443,9 +433,9 @@ static void fault(struct run *run, enum check check, uint32_t got, uint32_t held
 static uint32_t last_by_hand(const uint8_t *bytes, size_t length) {
     uint32_t last = 0;
     for (size_t at = 0; at + ROOM_MARK_BYTES <= length; at += ROOM_MARK_BYTES) {
-        uint32_t number = (uint32_t)get(bytes + at + 2, 4);
+        uint32_t number = room_get_number(bytes + at + 2);
         bool higher = number > (at == 0 ? 0 : last + MARGIN) || (number == L && last < L);
-        if (memcmp(bytes + at, "HM", 2) != 0 || number != get(bytes + at + 6, 4) || number > L || !higher) {
+        if (memcmp(bytes + at, "HM", 2) != 0 || number != room_get_number(bytes + at + 6) || number > L || !higher) {
             return L + 1;
         }
         last = number;
@@ -453,27 +443,42 @@ static uint32_t last_by_hand(const uint8_t *bytes, size_t length) {
     return last;
 }
 
+/* A state at a mark: its view number is the mark, and its first proposal has the next number, the next start number
+ * and nothing used. Words that are to be fresh are those of room_fresh. */
+static bool begins_at(uint32_t *state, uint8_t office, uint32_t mark) {
+    uint32_t fresh[ROOM_STATE_WORDS];
+    uint8_t report[ROOM_REPORT_BYTES], out[ROOM_OUTPUT_BYTES], expected[ROOM_NOTICE_BYTES + ROOM_PROPOSAL_BYTES];
+    uint64_t members = seats_of(office) | seats_of((office + 1u) % ROOM_OFFICES);
+    struct room_notice n = {mark + 1, members};
+    struct room_proposal p = {office, ROOM_FAST, members, mark + 1, mark + 1, {0}};
+    size_t reported = room_report_write(members, 0, report, sizeof report);
+    size_t length = room_notice_write(&n, expected, sizeof expected);
+    length += room_proposal_write(&p, expected + length, sizeof expected - length);
+    if (mark == 0 && (room_fresh(office, fresh, ROOM_STATE_WORDS) || memcmp(state, fresh, sizeof fresh) != 0)) {
+        return false;
+    }
+    bool numbered = room_view_number(state, ROOM_STATE_WORDS) == mark;
+    uint32_t answer = room_step(state, ROOM_STATE_WORDS, report, reported, out, sizeof out);
+    return numbered && (mark == L ? answer == ROOM_REFUSED_CEILING
+                                  : answer == 256 * length && memcmp(out, expected, length) == 0);
+}
+
 /* The file as a round left it. Of a wrong child too the calls must answer what the file is worth. */
 static void judge_file(struct run *run) {
-    uint32_t made[ROOM_STATE_WORDS], expected[ROOM_STATE_WORDS];
+    uint32_t made[ROOM_STATE_WORDS];
     ssize_t got = pread(run->held, run->bytes, sizeof run->bytes, 0);
     run->length = got < 0 ? 0 : (size_t)got;
     run->last = last_by_hand(run->bytes, run->length);
     bool sound = got >= 0 && run->length <= ROOM_FILE_BYTES && run->last <= L;
     memset(made, 0xAA, sizeof made);
-    memset(expected, 0xAA, sizeof expected);
     uint64_t mark = room_last_mark(run->bytes, run->length);
     uint8_t refusal = room_restart(run->office, run->bytes, run->length, made, ROOM_STATE_WORDS);
     if (!sound || refusal != 0) {
         fault(run, RESTARTS, refusal, (uint32_t)run->length);
     }
-    room_fresh(sound ? run->office : 0, expected, ROOM_STATE_WORDS);
-    if (sound) {
-        expected[NUMBER] = expected[START] = expected[VIEW_NUMBER] = run->last;
-    }
-    if (refusal != (sound ? 0 : 18) || mark != (sound ? 256ull * run->last : 18) ||
-        memcmp(made, expected, sizeof made) != 0) {
-        fault(run, BEGINS, (uint32_t)(mark / 256), run->last);
+    if (refusal != (sound ? 0 : ROOM_REFUSED_FILE) || mark != (sound ? 256ull * run->last : ROOM_REFUSED_FILE) ||
+        !begins_at(made, sound ? run->office : 0, sound ? run->last : 0)) {
+        fault(run, BEGINS, (uint32_t)room_value(mark), run->last);
     }
 }
 
@@ -487,7 +492,7 @@ static void rises(struct run *run, enum check check, uint32_t *highest, uint32_t
 /* The seats that are among the members hear the notice or view. They never begin again. */
 static void hear(struct run *run, const uint8_t *record, size_t size) {
     for (unsigned s = 0; s < SEATS; s++) {
-        if (get(record + 6, 8) >> (SEATS * run->office + s) & 1) {
+        if (room_has(room_get_set(record + 6), SEATS * run->office + s)) {
             uint8_t refusal = room_seat_hear(run->seats[s], ROOM_SEAT_WORDS, record, size);
             if (refusal != 0) {
                 fault(run, HEARD, refusal, 0);
@@ -500,7 +505,7 @@ static void hear(struct run *run, const uint8_t *record, size_t size) {
 static void judge_mark(struct run *run, uint32_t largest) {
     if (largest > run->reached) {
         run->reached = largest > L - MARGIN ? L : largest + MARGIN;
-        if (run->next + ROOM_MARK_BYTES > run->length || get(run->bytes + run->next + 2, 4) != run->reached) {
+        if (run->next + ROOM_MARK_BYTES > run->length || room_get_number(run->bytes + run->next + 2) != run->reached) {
             fault(run, MARKS, largest, run->reached);
         }
         run->next += ROOM_MARK_BYTES;
@@ -513,14 +518,15 @@ static bool is_counted(const struct plan *plan) { return plan->wrong == NOTHING 
 /* A fresh office of the members, another than the sender, is handed the proposal: 19 comes before all that depends on
  * its state. */
 static void judge_self_use(struct run *run, const uint8_t *proposal, uint32_t number) {
-    uint32_t state[ROOM_STATE_WORDS], used = (uint32_t)get(proposal + 20 + 4 * run->office, 4);
-    uint8_t out[ROOM], other = 0;
-    while (other < 15 && (other == run->office || (get(proposal + 4, 8) & seats_of(other)) == 0)) {
+    uint32_t state[ROOM_STATE_WORDS], used = room_get_number(proposal + 20 + 4 * run->office);
+    uint8_t out[ROOM_OUTPUT_BYTES], other = 0;
+    while (other < 15 && (other == run->office || (room_get_set(proposal + 4) & seats_of(other)) == 0)) {
         other++;
     }
     uint8_t made = room_fresh(other, state, ROOM_STATE_WORDS);
-    uint32_t refusal = room_step(state, ROOM_STATE_WORDS, proposal, 84, out, sizeof out) % 256;
-    if (used >= number || made != 0 || (refusal != 0 && refusal != 12)) {
+    unsigned refusal =
+        room_refused(room_step(state, ROOM_STATE_WORDS, proposal, ROOM_PROPOSAL_BYTES, out, sizeof out));
+    if (used >= number || made != 0 || (refusal != 0 && refusal != ROOM_REFUSED_UNREACHED)) {
         fault(run, SELF_USES, used, number);
     }
     seen.proposals += is_counted(run->plan);
@@ -529,9 +535,9 @@ static void judge_self_use(struct run *run, const uint8_t *proposal, uint32_t nu
 
 static void judge_record(struct run *run, const uint8_t *record, size_t size) {
     bool proposal = memcmp(record, "PR", 2) == 0, view = memcmp(record, "VW", 2) == 0;
-    uint32_t own = (uint32_t)get(record + (proposal ? 16 : 2), 4), largest = own;
+    uint32_t own = room_get_number(record + (proposal ? 16 : 2)), largest = own;
     for (size_t at = proposal ? 12 : 14; at < size; at += 4) {
-        uint32_t number = (uint32_t)get(record + at, 4);
+        uint32_t number = room_get_number(record + at);
         largest = number > largest ? number : largest;
     }
     if (largest > run->last) {
@@ -560,43 +566,27 @@ static void count_note(const struct note *note) {
     }
 }
 
-/* By its mark; 0 where it has none. */
-static size_t length_of(const uint8_t *record, size_t rest) {
-    static const char marks[3][3] = {"SC", "PR", "VW"};
-    static const size_t lengths[3] = {14, 84, 78};
-    for (int i = 0; i < 3; i++) {
-        if (rest >= 2 && memcmp(record, marks[i], 2) == 0) {
-            return lengths[i];
-        }
-    }
-    return 0;
-}
-
 /* All that left in a round, and behind it the note of a child that killed itself. */
 static void judge_pipe(struct run *run, const uint8_t *bytes, size_t length, bool at_limit) {
-    const size_t noted = sizeof run->note;
-    size_t size;
+    struct room_sent s = room_sent_in(bytes, length);
     run->note = (struct note){.cut = CUTS};
-    for (size_t at = 0; at < length; at += size) {
-        const uint8_t *r = bytes + at;
-        size_t rest = length - at;
-        bool note = rest == noted && memcmp(r, "CU", 2) == 0;
-        size = note ? noted : length_of(r, rest);
-        if (size == 0 || size > rest) {
-            fault(run, WHOLE, (uint32_t)at, (uint32_t)length);
-            return;
+    while (room_next(&s)) {
+        judge_record(run, s.bytes, s.length);
+        if (at_limit) {
+            fault(run, CEILING, (uint32_t)s.length, 0);
         }
-        if (note) {
-            memcpy(&run->note, r, noted);
-            if (run->note.self_uses > 0) {
-                fault(run, SELF_USES, run->note.self_uses, 0);
-            }
-        } else {
-            judge_record(run, r, size);
+    }
+    if (s.left == sizeof run->note && memcmp(s.rest, "CU", 2) == 0) {
+        memcpy(&run->note, s.rest, sizeof run->note);
+        if (run->note.self_uses > 0) {
+            fault(run, SELF_USES, run->note.self_uses, 0);
         }
-        if (at_limit && (!note || (run->note.cut == IDLED && run->note.refused == 0))) {
-            fault(run, CEILING, (uint32_t)size, 0);
+        if (at_limit && run->note.cut == IDLED && run->note.refused == 0) {
+            fault(run, CEILING, 0, 0);
         }
+    } else if (s.left > 0) {
+        fault(run, WHOLE, (uint32_t)(length - s.left), (uint32_t)length);
+        return;
     }
     if (run->next + 2 * ROOM_MARK_BYTES <= run->length) {
         fault(run, MARKS, (uint32_t)run->next, (uint32_t)run->length);
@@ -604,10 +594,10 @@ static void judge_pipe(struct run *run, const uint8_t *bytes, size_t length, boo
 }
 
 /* Reads the pipe to its end, which comes when the child has gone. */
-static size_t read_pipe(int from, uint8_t *bytes, size_t room) {
+static size_t read_pipe(int from, uint8_t *bytes, size_t capacity) {
     size_t length = 0;
     ssize_t got;
-    while (length < room && (got = read(from, bytes + length, room - length)) > 0) {
+    while (length < capacity && (got = read(from, bytes + length, capacity - length)) > 0) {
         length += (size_t)got;
     }
     return length;
@@ -660,9 +650,11 @@ static void play_round(struct run *run) {
 static void begin_file(struct run *run) {
     run->file++;
     run->round = 0;
-    run->office = (uint8_t)below(16);
+    run->office = (uint8_t)below(ROOM_OFFICES);
     for (uint8_t s = 0; s < SEATS; s++) {
-        room_seat_fresh((uint8_t)(SEATS * run->office + s), run->seats[s], ROOM_SEAT_WORDS);
+        if (room_seat_fresh((uint8_t)(SEATS * run->office + s), run->seats[s], ROOM_SEAT_WORDS)) {
+            stop("no seat");
+        }
     }
     run->proposal = run->start = run->view = run->last = 0;
     run->length = 0;

@@ -22,15 +22,17 @@ const FAST: u8 = 1;
 const SLOW: u8 = 2;
 
 // Places of a state, by docs/LAYOUT.md.
-const WORDS: usize = 425;
+const WORDS: usize = 410;
+const TOO_FEW: usize = WORDS - 1;
 const OWN: usize = 0;
 const MODE: usize = 1;
 const NET: usize = 2;
-const PRESENT_15: usize = 81;
-const START: usize = 86;
-const NUMBER: usize = 87;
-const ACCEPTED_15: usize = 120;
-const STORED_NUMBER_15: usize = 408;
+const PRESENT: usize = 6;
+const START: usize = 71;
+const NUMBER: usize = 72;
+const VIEW_NUMBER: usize = 73;
+const ACCEPTED_15: usize = 105;
+const STORED_NUMBER_15: usize = 393;
 
 const LENT_WORD: u32 = 170;
 const LENT_BYTE: u8 = 170;
@@ -62,7 +64,9 @@ fn view(number: u32, members: u64, start_0: u32, start_1: u32) -> Vec<u8> {
 }
 
 fn bytes(p: Proposal) -> Vec<u8> {
-    let mut record = [&b"PR"[..], &[p.sender, p.kind], &p.members.to_be_bytes(), &p.start.to_be_bytes(), &p.number.to_be_bytes()].concat();
+    let mut record =
+        [&b"PR"[..], &[p.sender, p.kind], &p.members.to_be_bytes(), &p.start.to_be_bytes(), &p.number.to_be_bytes()]
+            .concat();
     for office in 0..16 {
         record.extend(p.used.get(office).unwrap_or(&0).to_be_bytes());
     }
@@ -86,7 +90,8 @@ fn wrong(sender: u8, kind: u8, members: u64, start: u32, used: [u32; 3]) -> Vec<
 // The answer of one call: refusal, count, and the output after it.
 fn step(state: &mut [u32], record: &[u8], room: usize) -> (u32, u32, Vec<u8>) {
     let mut out = vec![LENT_BYTE; room];
-    let answer = unsafe { room_step(state.as_mut_ptr(), state.len(), record.as_ptr(), record.len(), out.as_mut_ptr(), room) };
+    let answer =
+        unsafe { room_step(state.as_mut_ptr(), state.len(), record.as_ptr(), record.len(), out.as_mut_ptr(), room) };
     (answer % 256, answer / 256, out)
 }
 
@@ -214,10 +219,12 @@ impl Tally {
         self.unchanged(name, 182, state, &record, 0);
     }
 
-    // One event at the office: what it writes to its seats, each accepted by the seat, and the seat's words after each.
+    // One event at the office: what it writes to its seats, each accepted by the seat, and the seat's words after
+    // each.
     fn tells(&mut self, name: &str, at: &mut OfficeAndSeat, record: Vec<u8>, told: &[(Vec<u8>, [u32; 4])]) {
         let (refusal, count, out) = step(&mut at.office, &record, 182);
-        let mut good = refusal == 0 && to_seats(&out[..count as usize]).into_iter().eq(told.iter().map(|(record, _)| record));
+        let mut good =
+            refusal == 0 && to_seats(&out[..count as usize]).into_iter().eq(told.iter().map(|(record, _)| record));
         for (record, words) in told {
             let (answer, after) = hear(&at.seat, record);
             good &= answer == 0 && after == words;
@@ -236,18 +243,22 @@ impl Tally {
     }
 }
 
-// M; where document 01 decides against Moshe: the slow test looks at every stored matching proposal of the other offices, once per event.
+// M; where document 01 decides against Moshe: the slow test looks at every stored matching proposal of the other
+// offices, once per event.
 fn days(t: &mut Tally) {
     t.does_nothing("M, a seat both joining and leaving", fresh(), report(0x01, 0x01));
     t.accepted("M, then a seat of another office alone", after(fresh(), report(0x01, 0x01)), report(0x10, 0), vec![]);
     t.accepted("after G, a later fast proposal opens no new round", after_g(), p(FAST, 4, 9, 2, 1), vec![]);
     t.accepted("after G, the own number used in mode slow", after_g(), p(FAST, 4, 4, 3, 2), own(SLOW, 2, 5, 1, 0));
     t.accepted("after B, 1 + the largest", after_b(), p(FAST, 3, 9, 2, 1), own(SLOW, 2, 10, 1, 0));
-    t.accepted("after B, a slow number that is not above the own one", after_b(), p(SLOW, 1, 2, 0, 0), own(SLOW, 2, 3, 1, 0));
-    t.accepted("after C, a slow proposal", after_c(), p(SLOW, 3, 2, 2, 1), [notice(3, 0x11), own(SLOW, 3, 3, 2, 1)].concat());
+    t.accepted("after B, a slow number that is not above the own one",
+        after_b(), p(SLOW, 1, 2, 0, 0), own(SLOW, 2, 3, 1, 0));
+    t.accepted("after C, a slow proposal",
+        after_c(), p(SLOW, 3, 2, 2, 1), [notice(3, 0x11), own(SLOW, 3, 3, 2, 1)].concat());
 }
 
-// A report that leaves the net view equal to what it was, whatever sets it names; and the reports beside it that change it.
+// A report that leaves the net view equal to what it was, whatever sets it names; and the reports beside it that
+// change it.
 fn repeats(t: &mut Tally) {
     t.does_nothing("fresh, an empty report", fresh(), report(0, 0));
     t.does_nothing("N, after B, an empty report", after_b(), report(0, 0));
@@ -261,9 +272,22 @@ fn repeats(t: &mut Tally) {
     let left = || after(after_c(), report(0, 0x10));
     t.accepted("after C, seat 4 leaves", after_c(), report(0, 0x10), [notice(3, 0x01), view(4, 0x01, 3, 0)].concat());
     t.does_nothing("after C, seat 4 leaves twice", left(), report(0, 0x10));
-    t.accepted("after C, seat 4 leaves and comes back", left(), report(0x10, 0), [notice(4, 0x11), own(FAST, 4, 4, 3, 1)].concat());
-    t.accepted("after B, a present seat joins and leaves", after_b(), report(0x10, 0x10), [notice(3, 0x01), view(4, 0x01, 3, 0)].concat());
-    let heard = |members| [notice(3, members), bytes(Proposal { sender: 0, kind: FAST, members, start: 3, number: 3, used: [1, 0, 0] })].concat();
+    t.accepted(
+        "after C, seat 4 leaves and comes back",
+        left(),
+        report(0x10, 0),
+        [notice(4, 0x11), own(FAST, 4, 4, 3, 1)].concat(),
+    );
+    t.accepted(
+        "after B, a present seat joins and leaves",
+        after_b(),
+        report(0x10, 0x10),
+        [notice(3, 0x01), view(4, 0x01, 3, 0)].concat(),
+    );
+    let heard = |members| {
+        [notice(3, members), bytes(Proposal { sender: 0, kind: FAST, members, start: 3, number: 3, used: [1, 0, 0] })]
+            .concat()
+    };
     t.accepted("after B, a second seat of an office", after_b(), report(0x02, 0), heard(0x13));
     t.accepted("after B, the last seat of all", after_b(), report(1 << 63, 0), heard(0x8000_0000_0000_0011));
     t.does_nothing("no seat here, the report again", after(fresh(), report(0x10, 0)), report(0x10, 0));
@@ -293,8 +317,8 @@ fn edges(t: &mut Tally) {
     last[OWN] = 15;
     t.say("office 15 is made", made(15, WORDS) == (0, last));
     t.say("office 16 gets 1, and the state of office 0", made(16, WORDS) == (1, zeros));
-    t.say("a state in 424 words gets 2", made(0, 424) == (2, vec![LENT_WORD; 424]));
-    t.refused("a record on 424 words gets 2", vec![LENT_WORD; 424], &report(0x01, 0), 2);
+    t.say("a state in a word too few gets 2", made(0, TOO_FEW) == (2, vec![LENT_WORD; TOO_FEW]));
+    t.refused("a record on a word too few gets 2", vec![LENT_WORD; TOO_FEW], &report(0x01, 0), 2);
     t.unchanged("an output of 181 bytes gets 3", 181, fresh(), &report(0x01, 0), 3);
     t.accepted("an output of 182 bytes serves (day I)", after(fresh(), p(SLOW, 1, 5, 0, 0)), report(0x11, 0),
         [notice(1, 0x11), own(FAST, 1, 6, 0, 0), own(SLOW, 1, 7, 0, 0)].concat());
@@ -312,8 +336,46 @@ fn states(t: &mut Tally) {
     t.refused("a number last accepted above L gets 2", with(ACCEPTED_15, L + 1), &joins, 2);
     t.refused("an own office above 15 gets 2", with(OWN, 16), &joins, 2);
     t.refused("a mode of 3 gets 2", with(MODE, 3), &joins, 2);
-    t.refused("a presence of 2 gets 2", with(PRESENT_15, 2), &joins, 2);
+    t.refused("presence of 65,536 gets 2", with(PRESENT, 65_536), &joins, 2);
+    t.refused("presence of every bit gets 2", with(PRESENT, u32::MAX), &joins, 2);
+    t.unchanged("presence of 65,535 passes check 2", 1, with(PRESENT, 65_535), &joins, 3);
+    let last_present = || changed(with(PRESENT, 1 << 15), STORED_NUMBER_15, L + 1);
+    t.refused("a number above L of a stored proposal gets 2", last_present(), &joins, 2);
     t.unchanged("a number above L behind an empty slot passes check 2", 1, with(STORED_NUMBER_15, L + 1), &joins, 3);
+}
+
+// 13 where the event would make L + 1, and not where it makes L.
+fn limits(t: &mut Tally) {
+    let (one, two) = (report(0x01, 0), report(0x11, 0));
+    t.refused("start number L, the next gets 13", with(START, L), &two, 13);
+    t.accepted("start number L - 1, a notice of L", with(START, L - 1), two.clone(),
+        [notice(L, 0x11), own(FAST, L, 1, 0, 0)].concat());
+    t.refused("start number L - 1 and a view of L + 1 gets 13", with(START, L - 1), &one, 13);
+    t.accepted("start number L - 2, a view of L", with(START, L - 2), one.clone(),
+        [notice(L - 1, 0x01), view(L, 0x01, L - 1, 0)].concat());
+    t.accepted("view number L, a notice of L", with(VIEW_NUMBER, L), two.clone(),
+        [notice(L, 0x11), own(FAST, L, 1, 0, 0)].concat());
+    t.refused("view number L and a view of L + 1 gets 13", with(VIEW_NUMBER, L), &one, 13);
+    t.accepted("view number L - 1, a view of L", with(VIEW_NUMBER, L - 1), one.clone(),
+        [notice(L - 1, 0x01), view(L, 0x01, L - 1, 0)].concat());
+    t.accepted("proposal number L - 1, a proposal of L", with(NUMBER, L - 1), two.clone(),
+        [notice(1, 0x11), own(FAST, 1, L, 0, 0)].concat());
+    t.accepted("proposal number L - 1, a proposal of L that nobody gets", with(NUMBER, L - 1), one,
+        [notice(1, 0x01), view(2, 0x01, 1, 0)].concat());
+    t.refused("a stored slow number L - 1, the second proposal gets 13", after(fresh(), p(SLOW, 1, L - 1, 0, 0)),
+        &two, 13);
+    t.accepted("a stored fast number L - 1, a proposal of L", after(fresh(), p(FAST, 1, L - 1, 0, 0)), two.clone(),
+        [notice(1, 0x11), own(FAST, 1, L, 0, 0), view(2, 0x11, 1, 1)].concat());
+    t.refused("a stored start number L, the view gets 13", after(fresh(), p(FAST, L, 1, 0, 0)), &two, 13);
+    t.accepted("a stored start number L - 1, a view of L", after(fresh(), p(FAST, L - 1, 1, 0, 0)), two,
+        [notice(1, 0x11), own(FAST, 1, 2, 0, 0), view(L, 0x11, 1, L - 1)].concat());
+    t.refused("after B, a start number of L gets 13", after_b(), &p(FAST, L, 1, 0, 0), 13);
+    t.accepted("after B, a start number of L - 1", after_b(), p(FAST, L - 1, 1, 0, 0), view(L, 0x11, 2, L - 1));
+    t.refused("after B, a number of L that calls for one above it gets 13", after_b(), &p(FAST, 3, L, 2, 1), 13);
+    t.accepted("after B, a number of L - 1 that does", after_b(), p(FAST, 3, L - 1, 2, 1), own(SLOW, 2, L, 1, 0));
+    t.accepted("after B, a slow number of L, which is taken", after_b(), p(SLOW, 3, L, 2, 1),
+        [own(SLOW, 2, L, 1, 0), view(4, 0x11, 2, 3)].concat());
+    t.accepted("after A, a number of L for other members", after_a(), p(SLOW, L, L, 0, 0), vec![]);
 }
 
 // Each input is wrong in all that comes after the number it gets.
@@ -408,30 +470,37 @@ fn self_uses_in_order(t: &mut Tally) {
     t.refused("19 before 13, proposal L + 1", after_b(), &p(FAST, 1, L, 2, L), 19);
 }
 
-// A seat's words: itself, its last start number, its last view number, whether a change is open. Seat 0 hears A, B and C, is away, and is back.
+// A seat's words: itself, its last start number, its last view number, whether a change is open. Seat 0 hears A, B
+// and C, is away, and is back.
 fn seat_day(t: &mut Tally) {
     let at = &mut both_fresh();
-    t.tells("A, seat 0 joins", at, report(0x01, 0), &[(notice(1, 0x01), [0, 1, 0, 1]), (view(2, 0x01, 1, 0), [0, 1, 2, 0])]);
+    t.tells("A, seat 0 joins",
+        at, report(0x01, 0), &[(notice(1, 0x01), [0, 1, 0, 1]), (view(2, 0x01, 1, 0), [0, 1, 2, 0])]);
     t.tells("B, seat 4 joins", at, report(0x10, 0), &[(notice(2, 0x11), [0, 2, 2, 1])]);
     t.tells("C, office 1 proposes", at, p(FAST, 1, 1, 0, 0), &[(view(3, 0x11, 2, 1), [0, 2, 3, 0])]);
     t.accepted("after C, seat 0 leaves, 0 bytes", at.office.clone(), report(0, 0x01), vec![]);
     t.tells("after C, seat 0 leaves", at, report(0, 0x01), &[]);
-    t.accepted("seat 0 comes back, 98 bytes", at.office.clone(), report(0x01, 0), [notice(3, 0x11), own(FAST, 3, 3, 2, 1)].concat());
+    t.accepted("seat 0 comes back, 98 bytes",
+        at.office.clone(), report(0x01, 0), [notice(3, 0x11), own(FAST, 3, 3, 2, 1)].concat());
     t.tells("seat 0 comes back", at, report(0x01, 0), &[(notice(3, 0x11), [0, 3, 3, 1])]);
     // office 1 had a view of seat 4 alone meanwhile, number 4
     t.tells("office 1 proposes again", at, p(FAST, 4, 3, 2, 2), &[(view(5, 0x11, 3, 4), [0, 3, 5, 0])]);
-    t.tells("seat 4 leaves", at, report(0, 0x10), &[(notice(5, 0x01), [0, 5, 5, 1]), (view(6, 0x01, 5, 0), [0, 5, 6, 0])]);
+    t.tells("seat 4 leaves",
+        at, report(0, 0x10), &[(notice(5, 0x01), [0, 5, 5, 1]), (view(6, 0x01, 5, 0), [0, 5, 6, 0])]);
 }
 
 // Seat 0 is away while its office goes on with seat 1. What lacks it is not for it, and would change nothing.
 fn seat_day_without_it(t: &mut Tally) {
     let at = &mut both_fresh();
-    t.tells("seats 0 and 1 join", at, report(0x03, 0), &[(notice(1, 0x03), [0, 1, 0, 1]), (view(2, 0x03, 1, 0), [0, 1, 2, 0])]);
-    t.accepted("seat 0 leaves, seat 1 stays", at.office.clone(), report(0, 0x01), [notice(2, 0x02), view(3, 0x02, 2, 0)].concat());
+    t.tells("seats 0 and 1 join",
+        at, report(0x03, 0), &[(notice(1, 0x03), [0, 1, 0, 1]), (view(2, 0x03, 1, 0), [0, 1, 2, 0])]);
+    t.accepted("seat 0 leaves, seat 1 stays",
+        at.office.clone(), report(0, 0x01), [notice(2, 0x02), view(3, 0x02, 2, 0)].concat());
     at.office = after(at.office.clone(), report(0, 0x01));
     t.not_heard("the notice without seat 0", &at.seat, &notice(2, 0x02), 9);
     t.not_heard("the view without seat 0", &at.seat, &view(3, 0x02, 2, 0), 9);
-    t.tells("seat 0 comes back to seat 1", at, report(0x01, 0), &[(notice(3, 0x03), [0, 3, 2, 1]), (view(4, 0x03, 3, 0), [0, 3, 4, 0])]);
+    t.tells("seat 0 comes back to seat 1",
+        at, report(0x01, 0), &[(notice(3, 0x03), [0, 3, 2, 1]), (view(4, 0x03, 3, 0), [0, 3, 4, 0])]);
 }
 
 // Seat 0 after B, with a change open, and after C.
@@ -446,14 +515,16 @@ fn seat_edges(t: &mut Tally) {
     t.say("a seat in 5 words gets 6", made_seat(0, 5) == (6, vec![LENT_WORD; 5]));
     t.say("seat 64 in 5 words gets 6", made_seat(64, 5) == (6, vec![LENT_WORD; 5]));
     t.hears("the last seat of all", [63, 0, 0, 0], &notice(1, 1 << 63), [63, 1, 0, 1]);
-    t.hears("a seat of office 1 looks at the start number of office 1", [4, 1, 2, 1], &view(3, 0x11, 2, 1), [4, 1, 3, 0]);
+    t.hears("a seat of office 1 looks at the start number of office 1",
+        [4, 1, 2, 1], &view(3, 0x11, 2, 1), [4, 1, 3, 0]);
     t.hears("a notice while a change is open", AFTER_B, &notice(3, 0x11), [0, 3, 2, 1]);
     t.hears("start number L", AFTER_B, &notice(L, 0x11), [0, L, 2, 1]);
     t.hears("view number L", AFTER_B, &view(L, 0x11, 2, 1), [0, 2, L, 0]);
     t.hears("another office's start number L", AFTER_B, &view(3, 0x11, 2, L), [0, 2, 3, 0]);
     t.hears("a start number that is the last view number", [0, 2, 5, 0], &notice(5, 0x11), [0, 5, 5, 1]);
     t.hears("a view number is held to the last start number alone", [0, 2, L, 1], &view(3, 0x11, 2, 1), [0, 2, 3, 0]);
-    t.hears("a change is open by any word but 0, and a view leaves 0", [0, 2, 2, 7], &view(3, 0x11, 2, 1), [0, 2, 3, 0]);
+    t.hears("a change is open by any word but 0, and a view leaves 0",
+        [0, 2, 2, 7], &view(3, 0x11, 2, 1), [0, 2, 3, 0]);
     t.hears("a change is open by any word but 0, and a notice leaves 1", [0, 2, 2, 7], &notice(3, 0x11), [0, 3, 2, 1]);
     t.not_heard("a refusal leaves the word that was there", &[0, 2, 2, 7], &notice(2, 0x11), 14);
 }
@@ -508,6 +579,7 @@ fn main() {
     repeats_and_refusals(&mut tally);
     edges(&mut tally);
     states(&mut tally);
+    limits(&mut tally);
     order(&mut tally);
     self_uses(&mut tally);
     no_self_uses(&mut tally);

@@ -1,5 +1,5 @@
-// The three questions of the desk program beside a version written from documents 01 and 02 alone. Each case is a kind of input; it passes
-// when the two agree on all of its inputs.
+// The three questions of the desk program beside a version written from documents 01 and 02 alone. Each case is a
+// kind of input; it passes when the two agree on all of its inputs.
 #[path = "common/random.rs"]
 mod random;
 
@@ -86,10 +86,16 @@ impl Tally {
     // Both questions about each set.
     fn sets(&mut self, name: &str, sets: impl Iterator<Item = u64>) {
         let sets: Vec<u64> = sets.collect();
-        self.case(name, sets.iter().map(|&set| (format!("set {set:#018x}"), unsafe { room_offices(set) }, expected_offices(set))));
-        self.case(&format!("{name}, how many offices"), sets.iter().map(|&set| {
-            (format!("set {set:#018x}"), unsafe { room_office_count(set) } as u16, expected_count(set) as u16)
-        }));
+        self.case(
+            name,
+            sets.iter().map(|&set| (format!("set {set:#018x}"), unsafe { room_offices(set) }, expected_offices(set))),
+        );
+        self.case(
+            &format!("{name}, how many offices"),
+            sets.iter().map(|&set| {
+                (format!("set {set:#018x}"), unsafe { room_office_count(set) } as u16, expected_count(set) as u16)
+            }),
+        );
     }
 }
 

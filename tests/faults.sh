@@ -1,9 +1,11 @@
 #!/usr/bin/env bash
-# The programs `room` and `trace` where the input comes in pieces, ends early or cannot be read, and where the output cannot be
-# written. Arguments: the two programs. The lines expected are document 01's. The last line is 'N passed, M failed'.
+# The programs `room` and `trace` where the input comes in pieces, comes late, ends early or cannot be read, where the
+# output is full or cannot be written, where a signal interrupts, and where there is an argument. Arguments: the two
+# programs. The lines expected are document 01's. The last line is 'N passed, M failed'.
 set -u
-room=$(readlink -f "$1") trace=$(readlink -f "$2")
+room=$(readlink -f "$1") trace=$(readlink -f "$2") common=$(dirname "$(readlink -f "${BASH_SOURCE[0]}")")/common
 mkdir -p target/tests/faults && cd target/tests/faults || exit 1
+gcc -std=c11 -O2 -Wall -Wextra -Werror "$common/faults.c" -o at_fault || exit 1
 
 passed=0 failed=0
 
@@ -25,6 +27,20 @@ case_of() {
     printf '%s' "$lines" >expected
     "$@" >got
     same "$name" expected got
+}
+
+# both NAME LINES SENTENCE COMMAND..: what the command prints on standard output and on standard error, and that it
+# ends with 0
+both() {
+    local name=$1 lines=$2 said=$3 status
+    shift 3
+    printf '%s' "$lines" >expected
+    printf '%s' "$said" >expected_said
+    timeout 60 "$@" >got 2>got_said
+    status=$?
+    same "$name" expected got
+    same "$name, standard error" expected_said got_said
+    holds "$name, status" [ "$status" = 0 ]
 }
 
 # holds NAME COMMAND..: passed where the command ends with 0
@@ -57,6 +73,8 @@ a='1 0 92 2'$'\n'
 days=$a'2 0 98 2'$'\n''3 0 78 3'$'\n''4 11 0 3'$'\n'
 none='0 1 0 0'$'\n'
 sentence='The output cannot be written.'$'\n'
+unread='The input cannot be read.'$'\n'
+reads='No argument is read; standard input is one byte, the office, then reports and proposals end to end.'$'\n'
 
 # the input in pieces of some bytes
 pieces() { dd if="$2" bs="$1" 2>pieces.err | timeout 60 "$room"; }
@@ -82,14 +100,60 @@ case_of 'the input ends with a record' "$a" from cut
 case_of 'another mark' "$a"'2 4 0 2'$'\n' from other
 case_of 'another mark, in pieces' "$a"'2 4 0 2'$'\n' pieces 1 other
 
-# No office byte, or one above 15; an input that cannot be read has none.
+# No office byte, or one above 15.
 : >empty && printf '\20' >above && printf '\17' >highest
 case_of 'no office byte' "$none" from empty
 case_of 'office 16' "$none" from above
 case_of 'office 15 and no record' '' from highest
-closed() { timeout 60 "$room" <&-; }
-case_of 'the input is closed' "$none" closed
-case_of 'the input cannot be read' "$none" from .
+
+# The lines of the first records of days, for either program.
+lines_of() {
+    if [ "$1" = "$room" ]; then head -n "$2" <<<"${days%$'\n'}"; else "$1" <days | head -n "$2"; fi
+}
+
+for program in "$room" "$trace"; do
+    name=${program##*/}
+
+    # Where the input cannot be read: one sentence, and no line where the office byte had not come.
+    both "$name: the input is a directory" '' "$unread" "$program" <.
+    both "$name: the input is closed" '' "$unread" "$program" <&-
+
+    # Where a read fails later, the records that came whole have their lines, and the rest has none.
+    whole=-1
+    for n in 0 1 2 18 19 20 21 36 37 38 120 121 204 205; do
+        head -c "$n" days >cut
+        case $n in 1 | 19 | 37 | 121 | 205) whole=$((whole + 1)) ;; esac
+        due=
+        [ "$whole" -le 0 ] || due=$(lines_of "$program" "$whole")$'\n'
+        both "$name: a read fails after $n bytes" "$due" "$unread" ./at_fault reset "$program" cut
+    done
+    # .. but what was stopped at before that is as on any input.
+    both "$name: another mark, then a read would fail" "$("$program" <other)"$'\n' '' ./at_fault reset "$program" other
+    both "$name: office 16, then a read would fail" "$none" '' ./at_fault reset "$program" above
+
+    # An input that has nothing now is waited for, the office byte too; its end is its end.
+    all=$(lines_of "$program" 4)$'\n'
+    for piece in '1 1' '10 20' '40 50' '205 300'; do
+        read -r n ms <<<"$piece"
+        both "$name: late, $n bytes each $ms ms" "$all" '' ./at_fault late "$program" days "$n" "$ms"
+    done
+    head -c 30 days >cut
+    both "$name: late, and ends inside a record" "$("$program" <cut)"$'\n' '' ./at_fault late "$program" cut 25 50
+    both "$name: late, and has no office byte" "$none" '' ./at_fault late "$program" empty 1 200
+
+    # A read that a signal interrupts is made again.
+    for n in 0 1 2 19 30 205; do
+        both "$name: interrupted after $n bytes" "$all" '' ./at_fault stopped "$program" days "$n"
+    done
+
+    # An argument, of any kind: one sentence, and nothing is read or written.
+    for word in --help -h days ''; do
+        both "$name: argument '$word'" '' "$reads" "$program" "$word" <days
+    done
+    both "$name: two arguments" '' "$reads" "$program" 0 1 <days
+    { "$program" --help 2>got_said && cat; } <days >got
+    same "$name: an argument leaves the input unread" days got
+done
 
 # Each line is written before the program waits for the next record.
 waited() {
@@ -117,6 +181,20 @@ for program in "$room" "$trace"; do
     same "$name: full disk, endless input" expected got
 done
 
+# An output that is full for a while gets every line, and one that takes a part gets no byte of it twice.
+{ printf '\0' && for i in $(seq 50000); do printf 'NE\0\0\0\0\0\0\0\0\0\0\0\0\0\0\0\0'; done; } >many
+many=$(seq -f '%.0f 0 0 0' 50000)$'\n'
+for program in "$room" "$trace"; do
+    name=${program##*/}
+    both "$name: the output is full for a while" "$many" '' ./at_fault full "$program" many 300
+    both "$name: interrupted while it writes" "$many" '' ./at_fault held "$program" many
+    (trap '' XFSZ && ulimit -f 3 && "$program" <many >part 2>got_said)
+    head -c 3072 <<<"$many" >expected
+    printf '%s' "$sentence" >expected_said
+    same "$name: the output takes a part" expected part
+    same "$name: the output takes a part, standard error" expected_said got_said
+done
+
 # 2,097,152 empty reports: nothing is written, and the lines are numbered to the end.
 { printf 'NE' && zeros 16; } >reports
 for i in $(seq 21); do cat reports reports >more && mv more reports; done
@@ -135,6 +213,6 @@ holds 'a closed pipe' [ "$status" = 141 ]
 printf '1 0 0 0\n' >expected
 same 'a closed pipe, its first line' expected got
 
-rm -f reports long expected got
+rm -f reports long many part expected expected_said got got_said
 echo "$passed passed, $failed failed"
 [ "$failed" -eq 0 ]

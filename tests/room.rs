@@ -1,6 +1,6 @@
-// The program `room` beside the model, on plays of several offices and on damaged, cut and long inputs. `trace` prints the same
-// lines with the bytes written behind them. Arguments: the two programs. A case passes when all of its inputs agree; the first that
-// does not is kept as target/tests/room.input.
+// The program `room` beside the model, on plays of several offices and on damaged, cut and long inputs. `trace`
+// prints the same lines with the bytes written behind them. Arguments: the two programs. A case passes when all of
+// its inputs agree; the first that does not is kept as target/tests/room.input.
 #[allow(dead_code)]
 #[path = "common/model.rs"]
 mod model;
@@ -200,7 +200,12 @@ impl Tests {
                             if !got.status.success() || got.stdout != text.as_bytes() || !got.stderr.is_empty() {
                                 let mut first = differs.lock().unwrap();
                                 if first.as_ref().is_none_or(|f| k < f.at) {
-                                    *first = Some(Difference { at: k, path: path.clone(), expected: text.clone(), got: got.stdout });
+                                    *first = Some(Difference {
+                                        at: k,
+                                        path: path.clone(),
+                                        expected: text.clone(),
+                                        got: got.stdout,
+                                    });
                                 }
                             }
                         }
@@ -350,7 +355,8 @@ fn notice(start: u32, members: u64) -> Vec<u8> {
 }
 
 fn view(number: u32, members: u64, start_0: u32, start_1: u32) -> Vec<u8> {
-    let head = [&b"VW"[..], &number.to_be_bytes(), &members.to_be_bytes(), &start_0.to_be_bytes(), &start_1.to_be_bytes()];
+    let head =
+        [&b"VW"[..], &number.to_be_bytes(), &members.to_be_bytes(), &start_0.to_be_bytes(), &start_1.to_be_bytes()];
     [&head.concat()[..], &[0; 56]].concat()
 }
 

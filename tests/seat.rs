@@ -1,5 +1,5 @@
-// The calls for C that make a seat and hand it a record, beside the model of change request 3: every answer, every word and every byte. Each
-// case is a kind of input; it passes when the two agree on all of its inputs.
+// The calls for C that make a seat and hand it a record, beside the model of change request 3: every answer, every
+// word and every byte. Each case is a kind of input; it passes when the two agree on all of its inputs.
 #[path = "common/choice.rs"]
 mod choice;
 #[allow(dead_code)]
@@ -106,7 +106,9 @@ impl Tally {
         let expected = seat::fresh(seat, row);
         let got = unsafe { room_seat_fresh(seat, lent.as_mut_ptr().add(AROUND), row.len()) };
         let same = got == expected && lent == around(row, WORD);
-        self.compared(same, || format!("seat {seat} in {} words: got {got}, expected {expected}, row {:?}", row.len(), &lent[AROUND..]));
+        self.compared(same, || {
+            format!("seat {seat} in {} words: got {got}, expected {expected}, row {:?}", row.len(), &lent[AROUND..])
+        });
     }
 
     // One record on a row, which is then as the model leaves it: what the call answered.
@@ -191,7 +193,8 @@ impl Returns {
     }
 }
 
-// A fresh seat through a day: whether each record whose members hold it is accepted, and each other gets 9 and changes nothing.
+// A fresh seat through a day: whether each record whose members hold it is accepted, and each other gets 9 and
+// changes nothing.
 fn sit_through(t: &mut Tally, day: &Day, seat: usize, returns: &mut Returns) -> bool {
     let (mut row, mut stay, mut right) = (t.fresh(seat), Stay::default(), true);
     for (net, records) in &day.events {
@@ -367,7 +370,9 @@ fn reached(t: &mut Tally) {
         let least = t.reached.seats.iter().map(|n| n[at]).min().unwrap();
         t.often(&format!("{what}, of the seat with fewest"), least, 100);
     }
-    for (what, at) in [("8 by a single start number", 0), ("10 by a single start number", 1), ("15 by another start number", 2)] {
+    for (what, at) in
+        [("8 by a single start number", 0), ("10 by a single start number", 1), ("15 by another start number", 2)]
+    {
         let least = t.reached.offices.iter().map(|n| n[at]).min().unwrap();
         t.often(&format!("{what}, of the office with fewest"), least, 20);
     }
@@ -408,7 +413,14 @@ fn edges(t: &mut Tally) {
 
 fn main() {
     let (alone, orders) = ([0; REASONS.len()], [[0; 17]; 17]);
-    let mut tally = Tally::new(Reached { records: 0, answers: [0; 17], alone, orders, seats: [[0; 3]; 64], offices: [[0; 3]; 16] });
+    let mut tally = Tally::new(Reached {
+        records: 0,
+        answers: [0; 17],
+        alone,
+        orders,
+        seats: [[0; 3]; 64],
+        offices: [[0; 3]; 16],
+    });
     let t = &mut tally;
 
     making(t);

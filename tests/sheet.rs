@@ -1,5 +1,5 @@
-// The calls for C that make a sync record and ask who came along, beside the model of change request 4: every answer, every byte and every word.
-// Each case is a kind of input; it passes when the two agree on all of its inputs.
+// The calls for C that make a sync record and ask who came along, beside the model of change request 4: every
+// answer, every byte and every word. Each case is a kind of input; it passes when the two agree on all of its inputs.
 #[path = "common/choice.rs"]
 mod choice;
 #[path = "common/desks.rs"]
@@ -52,7 +52,9 @@ use random::Random;
 use seat::notice;
 use sheet::{bytes, Answer, Sync, BYTES, MOST};
 use sheet_calls::{room_came_along, room_seat_sync};
-use sheet_inputs::{add_beside, among, counted, damage, other, put, seats, some_members, some_number, some_view, whole, Asked, BAD};
+use sheet_inputs::{
+    add_beside, among, counted, damage, other, put, seats, some_members, some_number, some_view, whole, Asked, BAD,
+};
 use sheet_reached::Reached;
 use std::ops::Range;
 
@@ -83,9 +85,17 @@ impl Tally {
         if let Some(record) = written {
             expected[place.clone()].copy_from_slice(&record.bytes());
         }
-        let got = unsafe { room_seat_sync(desk.as_mut_ptr().add(AROUND), words.len(), left.as_mut_ptr().add(AROUND), out.len()) };
+        let got = unsafe {
+            room_seat_sync(desk.as_mut_ptr().add(AROUND), words.len(), left.as_mut_ptr().add(AROUND), out.len())
+        };
         let same = got == written.map_or(0, |_| BYTES) && left == expected && desk == around(words, WORD);
-        self.compared(same, || format!("words {words:?}, room {}: got {got} and {:02x?}, expected {written:?}", out.len(), &left[AROUND..]));
+        self.compared(same, || {
+            format!(
+                "words {words:?}, room {}: got {got} and {:02x?}, expected {written:?}",
+                out.len(),
+                &left[AROUND..]
+            )
+        });
         (got == BYTES).then(|| Sync::read(&left[place]))
     }
 
@@ -99,11 +109,13 @@ impl Tally {
             room_came_along(s, sheet.lent.len(), v, view.lent.len(), own, set.as_mut_ptr().add(AROUND))
         };
         let after = if let Answer::Came(members) = expected { members } else { before };
-        let same = got == expected.number() && set == around(&[after], LONG) && sheets == sheet.all && views == view.all;
+        let same =
+            got == expected.number() && set == around(&[after], LONG) && sheets == sheet.all && views == view.all;
         self.compared(same, || {
             let (records, view, left) = (sheet.bytes(), view.bytes(), set[AROUND]);
             let (length, shown) = (records.len(), &records[..records.len().min(66)]);
-            format!("{length} bytes {shown:02x?}.., view {view:02x?}, own {own}: got {got} and {left:#x}, expected {expected:x?}")
+            let asked = format!("{length} bytes {shown:02x?}.., view {view:02x?}, own {own}");
+            format!("{asked}: got {got} and {left:#x}, expected {expected:x?}")
         });
         expected
     }
@@ -143,7 +155,10 @@ fn making(t: &mut Tally) {
         let mut r = Random(2);
         for case in 0.. {
             let mut rest = case;
-            let (room, length) = (choice(&mut rest, &(0..=40).collect::<Vec<_>>()), choice(&mut rest, &[0, 1, 2, 3, 4, 4, 4, 4, 5, 6, 7, 8]));
+            let (room, length) = (
+                choice(&mut rest, &(0..=40).collect::<Vec<_>>()),
+                choice(&mut rest, &[0, 1, 2, 3, 4, 4, 4, 4, 5, 6, 7, 8]),
+            );
             if rest == 10 {
                 return;
             }
@@ -211,8 +226,12 @@ fn pairs_of_seats(t: &mut Tally) {
                 continue;
             }
             let (view, own) = (some_view(&mut r, 1 << low | 1 << high), some_number(&mut r));
-            let kinds = [low, high].map(|seat| (seat, choice(&mut rest, &[None, Some((true, true)), Some((false, true))])));
-            let mut records: Vec<Sync> = kinds.iter().flat_map(|&(seat, kind)| kind.map(|kind| of_kind(&mut r, &view, seat, own, kind))).collect();
+            let kinds =
+                [low, high].map(|seat| (seat, choice(&mut rest, &[None, Some((true, true)), Some((false, true))])));
+            let mut records: Vec<Sync> = kinds
+                .iter()
+                .flat_map(|&(seat, kind)| kind.map(|kind| of_kind(&mut r, &view, seat, own, kind)))
+                .collect();
             if rest == 1 {
                 records.reverse();
             }
@@ -240,14 +259,18 @@ fn whole_sheets(t: &mut Tally) {
             }
         }
     });
-    t.verdicts.check("a whole sheet is answered by a set within the members, one without a seat's records by that seat", right);
+    t.verdicts.check(
+        "a whole sheet is answered by a set within the members, one without a seat's records by that seat",
+        right,
+    );
 }
 
 // Every row of up to four kinds, the empty one first.
 fn rows_of_kinds() -> Vec<Vec<Kind>> {
     let mut all = vec![Vec::new()];
     for at in 0..1 + 4 + 16 + 64 {
-        let longer = [(true, true), (true, false), (false, true), (false, false)].map(|kind| [&all[at][..], &[kind]].concat());
+        let longer =
+            [(true, true), (true, false), (false, true), (false, false)].map(|kind| [&all[at][..], &[kind]].concat());
         all.extend(longer);
     }
     all
@@ -289,8 +312,8 @@ fn few_records(t: &mut Tally) {
 
 // Numbers of the view and one's own
 
-// A sheet with all its records, with a byte too many, or with too many records; none is bad, or the last by its mark, seat, start number or
-// previous view number.
+// A sheet with all its records, with a byte too many, or with too many records; none is bad, or the last by its
+// mark, seat, start number or previous view number.
 fn a_kind_of_sheet(records: &[Sync], kind: &mut usize) -> Vec<u8> {
     let (long, bad) = (choice(kind, &[0, 1, 2]), choice(kind, &[None, Some(0), Some(3), Some(5), Some(7)]));
     let mut sheet = if long == 2 { bytes(&vec![records[0]; MOST]) } else { Vec::new() };
@@ -317,7 +340,8 @@ fn numbers(t: &mut Tally) {
             let (start, own) = (choice(&mut rest, &EDGES), choice(&mut rest, &[0, L, L + 1, u32::MAX]));
             let mut view = View { number, members, starts: [0; 16] };
             (view.starts[office], view.starts[second / 4]) = (start, 9);
-            let record = |seat: usize| Sync { start: view.starts[seat / 4].min(L), ..counted(&view, seat, own.min(L)) };
+            let record =
+                |seat: usize| Sync { start: view.starts[seat / 4].min(L), ..counted(&view, seat, own.min(L)) };
             let records = [record(second), record(seat)];
             let sheet = a_kind_of_sheet(&records, &mut rest);
             if rest != 0 {
@@ -331,7 +355,11 @@ fn numbers(t: &mut Tally) {
 fn layouts(t: &mut Tally) {
     t.case("views of every length under each mark, start notices among them, with sheets of all kinds", |t| {
         let mut r = Random(11);
-        let view = View { number: 3, members: 0x13, starts: std::array::from_fn(|office| [2, 1].get(office).copied().unwrap_or(0)) };
+        let view = View {
+            number: 3,
+            members: 0x13,
+            starts: std::array::from_fn(|office| [2, 1].get(office).copied().unwrap_or(0)),
+        };
         let records = whole(&mut r, &view, 2);
         for case in 0.. {
             let mut rest = case;
@@ -415,7 +443,10 @@ fn parts(t: &mut Tally) {
             for _ in 0..20 {
                 let from = BYTES * r.below(sheet.len() / BYTES + 1);
                 let whole = from + BYTES * r.below((sheet.len() - from) / BYTES + 1);
-                let to = some(&mut r, &[whole, whole, whole, whole.saturating_sub(1).max(from), (whole + 1).min(sheet.len())]);
+                let to = some(
+                    &mut r,
+                    &[whole, whole, whole, whole.saturating_sub(1).max(from), (whole + 1).min(sheet.len())],
+                );
                 let length = some(&mut r, &[78, 78, 78, 0, 1, 77, 79]);
                 t.ask_parts(Part { all: &sheet, lent: from..to }, Part { all: &views, lent: 78..78 + length }, own);
             }

@@ -1,13 +1,16 @@
-// The calls for C that make and change a state, beside the model: every answer, every word and every byte. Each case is a
-// kind of input; it passes when the two agree on all of its inputs.
+// The calls for C that make, change and ask a state or write a report, beside the model: every answer, every word and
+// every byte. Each case is a kind of input; it passes when the two agree on all of its inputs.
 #[path = "common/inputs.rs"]
 mod inputs;
-#[allow(dead_code)]
 #[path = "common/lent.rs"]
 mod lent;
 #[allow(dead_code)]
 #[path = "common/model.rs"]
 mod model;
+#[path = "common/near_limit.rs"]
+mod near_limit;
+#[path = "common/office_calls.rs"]
+mod office_calls;
 #[path = "common/play.rs"]
 mod play;
 #[path = "common/random.rs"]
@@ -58,6 +61,8 @@ struct Reached {
     self_uses: SelfUses,
     // a proposal that claims to have used itself, answered 2, and answered 3 where nothing else is wrong with it
     early: [u64; 2],
+    // rows with a view, and rows answered 2 with a number above 0 in the place of its number
+    views: [u64; 2],
 }
 
 struct Compared<'a> {
@@ -73,8 +78,8 @@ struct Compared<'a> {
 }
 
 impl Compared<'_> {
-    // One record on a row, with an output of a length: both answers, and the row as both leave it. The row stays in `row` with the words
-    // around it.
+    // One record on a row, with an output of a length: both answers, and the row as both leave it. The row stays in
+    // `row` with the words around it.
     fn hand(&mut self, record: &[u8], room: usize) -> u8 {
         let words = self.row.len() - 2 * AROUND;
         let lent = AROUND..AROUND + words;
@@ -82,6 +87,7 @@ impl Compared<'_> {
         let refusal = rows::step(&mut self.expected[lent], record, room, &mut self.written);
         let answer = 256 * self.written.len() as u32 + refusal as u32;
         self.count(record, refusal);
+        let view = self.asks_view(refusal);
 
         self.out.clear();
         self.out.resize(room + 2 * AROUND, BYTE);
@@ -93,19 +99,28 @@ impl Compared<'_> {
         let end = AROUND + self.written.len();
         let bytes = self.out[AROUND..end] == self.written[..]
             && self.out[..AROUND].iter().chain(&self.out[end..]).all(|&b| b == BYTE);
-        let same = got == answer && self.row == self.expected && bytes && record == kept;
+        let same = got == answer && self.row == self.expected && bytes && record == kept && view;
         self.inputs += 1;
         self.reached.answers[refusal as usize] += 1;
         if !same {
             self.wrong += 1;
             if self.wrong <= 5 {
                 let at = (0..self.row.len()).find(|&k| self.row[k] != self.expected[k]);
-                println!("{}: {words} words, record {:02x?}, room {room}: got {got}, expected {answer}, first word that differs {:?}, \
-                    bytes {bytes}", self.name, &record[..record.len().min(20)], at.map(|k| k as isize - AROUND as isize));
+                println!("{}: {words} words, record {:02x?}, room {room}: got {got}, expected {answer}, \
+                    first word that differs {:?}, bytes {bytes}, view number {view}", self.name,
+                    &record[..record.len().min(20)], at.map(|k| k as isize - AROUND as isize));
             }
             self.row.clone_from(&self.expected);
         }
         refusal
+    }
+
+    // The view number of the row, before it changes: its word, or 0 where the model answers 2.
+    fn asks_view(&mut self, refusal: u8) -> bool {
+        let number = self.words().get(rows::VIEW_NUMBER).copied().unwrap_or(0);
+        let sound = refusal != 2;
+        self.reached.views[!sound as usize] += (number > 0) as u64;
+        office_calls::view_number(self.words()) == Some(if sound { number } else { 0 })
     }
 
     // What kind of record came, by the model, before the row changes.
@@ -189,7 +204,8 @@ impl Tally {
         println!("{name}: {inputs} compared");
         self.inputs += inputs;
         self.verdicts.check(name, wrong == 0 && inputs > 0);
-        self.verdicts.check(&format!("{name}: each repeat is accepted with 0 bytes, and every word stays"), reports.heard == 0);
+        self.verdicts.check(&format!("{name}: each repeat is accepted with 0 bytes, and every word stays"),
+            reports.heard == 0);
         reports
     }
 
@@ -254,12 +270,16 @@ fn some_record(random: &mut Random, row: &[u32], last: &[u8], of_play: &[u8]) ->
     let own = row[rows::OWN] as usize % 16;
     match random.below(5) {
         0 => of_play.to_vec(),
-        1 => report(random.next() & random.next() & random.next() | 1 << (4 * own), random.next() & random.next() & random.next()),
+        1 => report(
+            random.next() & random.next() & random.next() | 1 << (4 * own),
+            random.next() & random.next() & random.next(),
+        ),
         2 => repeat(random, net, last),
         _ => {
             let sender = (own + 1 + random.below(15)) % 16;
             let members = if random.below(3) == 0 { net } else { net | 1 << (4 * own) | 1 << (4 * sender) };
-            let number = some(random, &[row[rows::NUMBER], row[rows::ACCEPTED + sender].saturating_add(1), L, L - 1]).max(1);
+            let number =
+                some(random, &[row[rows::NUMBER], row[rows::ACCEPTED + sender].saturating_add(1), L, L - 1]).max(1);
             let start = some(random, &[row[rows::START].max(1), 1, L, 1 << 30]);
             let mut used = [0; 16];
             for k in offices(members) {
@@ -390,20 +410,45 @@ fn lengths(t: &mut Tally) {
     });
 }
 
+// Words of any state that passes check 2.
+fn make_sound(row: &mut [u32]) {
+    row[rows::OWN] %= 16;
+    row[rows::MODE] %= 3;
+    row[rows::PRESENT] %= 65_536;
+    for word in &mut row[rows::START..] {
+        *word %= L + 1;
+    }
+}
+
+// One or two bits of the word turned over: slots appear with any words in them, slots are gone, bits of no office.
+fn presence(t: &mut Tally) {
+    let name = "presence, any one and any two bits turned over";
+    let mut refused = 0;
+    t.case(name, |c| {
+        let mut r = Random(11);
+        for _ in 0..20 {
+            let mut row: Vec<u32> = (0..WORDS).map(|_| r.next() as u32).collect();
+            make_sound(&mut row);
+            for bits in (0..32).flat_map(|a| (0..32).map(move |b| 1_u32 << a | 1 << b)) {
+                let mut turned = row.clone();
+                turned[rows::PRESENT] ^= bits;
+                let joining = report(r.next(), 0);
+                let record = some_record(&mut r, &turned, &[], &joining);
+                refused += (c.aside(&turned, &record, ROOM) == 2) as u64;
+            }
+        }
+    });
+    // two bits of offices pass
+    t.verdicts.check(&format!("{name}: 2 for every bit of no office"), refused == 20 * (32 * 32 - 16 * 16));
+}
+
 fn random_words(t: &mut Tally) {
     t.case("random words and random bytes", |c| {
         let mut r = Random(5);
         for _ in 0..50_000 {
             let mut row: Vec<u32> = (0..WORDS).map(|_| r.next() as u32 % (2 * L)).collect();
             if r.below(4) != 0 {
-                row[rows::OWN] %= 16;
-                row[rows::MODE] %= 3;
-                for o in 0..16 {
-                    row[rows::slot(o)] %= 2;
-                }
-                for word in &mut row[rows::START..] {
-                    *word %= L + 1;
-                }
+                make_sound(&mut row);
             }
             let record = match r.below(3) {
                 0 => r.bytes(18),
@@ -493,10 +538,14 @@ fn main() {
     let t = &mut tally;
 
     t.verdicts.check("every office in words of every length", making());
+    office_calls::reports(&mut t.verdicts);
+    office_calls::view_numbers(&mut t.verdicts);
     plays(t);
     changed_rows(t);
     near_the_ceiling(t);
+    near_limit::all(t);
     lengths(t);
+    presence(t);
     random_words(t);
     near_self_uses(t);
     sixteen_offices(t);
@@ -505,6 +554,9 @@ fn main() {
     println!("answers: {}", tallied(&answers));
     t.verdicts.check("each answer but 1 was reached", ANSWERS.iter().all(|&n| answers[n] > 0));
     t.met_self_uses();
+    let [views, none] = t.reached.views;
+    t.often("rows with a view", views, 500_000);
+    t.often("rows answered 2 with a view's number", none, 50_000);
     println!("step: {} inputs compared", tally.inputs);
     tally.verdicts.end();
 }

@@ -1,5 +1,5 @@
-// The question for C whom an office waits for, beside the model, written from change request 1. Each case is a kind of input; it passes when
-// the two agree on all of its inputs, and no word was touched.
+// The question for C whom an office waits for, beside the model, written from change request 1. Each case is a kind
+// of input; it passes when the two agree on all of its inputs, and no word was touched.
 #[path = "common/inputs.rs"]
 mod inputs;
 #[allow(dead_code)]
@@ -77,19 +77,30 @@ impl Tally {
     }
 }
 
-// The own proposal's words copied to the slots of the offices from one on, or of all: the agreement test comes close to being met, and is met
-// at times. Then a word of a slot, or the own number, may change.
+// The own proposal's words copied to the slots of the offices from one on, or of all: the agreement test comes close
+// to being met, and is met at times. Then a word of a slot, or the own number, may change.
 fn fill(random: &mut Random, row: &mut [u32]) {
     let own = row[rows::OWN] as usize;
     let (slot, numbers) = (rows::slot(own), rows::slot_numbers(own));
     let first = if random.below(2) == 0 { 0 } else { random.below(16) };
     for o in first..16 {
-        row.copy_within(slot..slot + 5, rows::slot(o));
+        row.copy_within(slot..slot + 4, rows::slot(o));
         row.copy_within(numbers..numbers + 18, rows::slot_numbers(o));
     }
+    let filled = 65_536 - (1 << first);
+    row[rows::PRESENT] = row[rows::PRESENT] & !filled | if rows::present(row, own) { filled } else { 0 };
     let o = random.below(16);
     match random.below(3) {
-        0 => row[some(random, &[rows::slot(o), rows::slot(o) + 2, rows::slot(o) + 3, rows::slot_numbers(o) + 1])] = some(random, &[0, 1, 2]),
+        0 => match random.below(4) {
+            0 => {
+                let (bits, bit) = (row[rows::PRESENT], 1 << o);
+                row[rows::PRESENT] = some(random, &[bits & !bit, bits | bit, bits | bit << 16]);
+            }
+            _ => {
+                row[some(random, &[rows::slot(o) + 1, rows::slot(o) + 2, rows::slot_numbers(o) + 1])] =
+                    some(random, &[0, 1, 2])
+            }
+        },
         1 => row[rows::NUMBER] += 1,
         _ => (),
     }
@@ -171,9 +182,7 @@ fn main() {
             let mut row: Vec<u32> = (0..WORDS).map(|_| r.next() as u32 % (2 * L)).collect();
             row[rows::OWN] %= 17;
             row[rows::MODE] %= 4;
-            for o in 0..16 {
-                row[rows::slot(o)] %= 2;
-            }
+            row[rows::PRESENT] %= 65_536;
             if r.below(4) != 0 {
                 for word in &mut row[rows::START..] {
                     *word %= L + 1;

@@ -1,5 +1,5 @@
-// Plays of several offices with their desks: each desk hears what its office writes to it, puts its sync record on a sheet after each notice, and
-// asks at each view who came along.
+// Plays of several offices with their desks: each desk hears what its office writes to it, puts its sync record on a
+// sheet after each notice, and asks at each view who came along.
 use crate::hearing::told;
 use crate::inputs::habits;
 use crate::lent::{BYTE, WORD};
@@ -75,7 +75,8 @@ impl Desks {
         heard && made.is_some()
     }
 
-    // A view is heard, and the desk asks who came along from the view before it. Its own last record counts, and names its own number.
+    // A view is heard, and the desk asks who came along from the view before it. Its own last record counts, and
+    // names its own number.
     fn on_view(&mut self, t: &mut Tally, seat: usize, record: &[u8]) -> (bool, Answer) {
         let (own, view) = (self.rows[seat][2], seat::view(record));
         let heard = self.hear(seat, record);

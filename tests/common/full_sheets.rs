@@ -1,10 +1,13 @@
-// Full sheets, of 512 records: the one that decides and bad ones in each place; and sheets of every length up to there and some above.
+// Full sheets, of 512 records: the one that decides and bad ones in each place; and sheets of every length up to
+// there and some above.
 use crate::choice::choice;
 use crate::inputs::some;
 use crate::model::View;
 use crate::random::Random;
 use crate::sheet::{bytes, Sync, BYTES, MOST};
-use crate::sheet_inputs::{beside, counted, other, seats, shuffle, some_members, some_number, some_view, whole, BAD, NOT_BAD};
+use crate::sheet_inputs::{
+    beside, counted, other, seats, shuffle, some_members, some_number, some_view, whole, BAD, NOT_BAD,
+};
 use crate::Tally;
 
 pub fn all(t: &mut Tally) {

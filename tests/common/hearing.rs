@@ -37,11 +37,14 @@ fn some_pool(random: &mut Random, office: usize) -> u64 {
     pool & (random.next() | random.next())
 }
 
-// A play of several offices: the notices and views of all, each with its office, in the order written. Forged proposals come to the one given.
+// A play of several offices: the notices and views of all, each with its office, in the order written. Forged
+// proposals come to the one given.
 pub fn told(random: &mut Random, habits: Habits, office: usize, records: usize) -> Vec<(usize, Vec<u8>)> {
     let pool = some_pool(random, office);
     let (mut play, mut all) = (Play::new(Random(random.next() | 1), habits, pool, office), Vec::new());
-    play.go_telling(records, |office, written| all.extend(to_seats(written).into_iter().map(|record| (office, record))));
+    play.go_telling(records, |office, written| {
+        all.extend(to_seats(written).into_iter().map(|record| (office, record)))
+    });
     all
 }
 

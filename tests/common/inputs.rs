@@ -49,7 +49,8 @@ pub fn some<T: Copy>(random: &mut Random, of: &[T]) -> T {
     of[random.below(of.len())]
 }
 
-// One word of a row changed: numbers about L and about the numbers there, modes, presence, what stands behind an empty slot, sets at will.
+// One word of a row changed: numbers about L and about the numbers there, modes, presence, what stands behind an
+// empty slot, sets at will.
 pub fn change(random: &mut Random, row: &mut [u32]) {
     let o = random.below(16);
     let low = (1 << 30) - 1;
@@ -57,25 +58,28 @@ pub fn change(random: &mut Random, row: &mut [u32]) {
     let any = random.next() as u32;
     match random.below(16) {
         0 => row[rows::MODE] = some(random, &[0, 1, 2, 0, 1, 2, 3, u32::MAX]),
-        1 => row[rows::slot(o)] = some(random, &[0, 1, 0, 1, 1, 2, u32::MAX]),
+        1 => change_presence(random, row, o),
         2 => row[rows::OWN] = some(random, &[o as u32, 15, 0, 16, 256]),
-        3 => row[rows::slot(o) + 1] = any,
-        4 => row[rows::slot(o) + 2] = some(random, &[0, 1, 2, 3, 257, 258, u32::MAX]),
+        3 => row[rows::slot(o)] = any,
+        4 => row[rows::slot(o) + 1] = some(random, &[0, 1, 2, 3, 257, 258, u32::MAX]),
         5 => {
             let at = rows::NET + random.below(4);
             row[at] = some(random, &[0, any, row[rows::NET], 1 << (any % 32)]);
         }
-        6 => row[rows::slot(o) + 3 + random.below(2)] = some(random, &[0, row[rows::NET], row[rows::NET + 1], any]),
-        7 => row[some(random, &[rows::START, rows::NUMBER, rows::VIEW_NUMBER])] = some(random, &[L - 2, L - 1, L, low, low + 1]),
+        6 => row[rows::slot(o) + 2 + random.below(2)] = some(random, &[0, row[rows::NET], row[rows::NET + 1], any]),
+        7 => {
+            row[some(random, &[rows::START, rows::NUMBER, rows::VIEW_NUMBER])] =
+                some(random, &[L - 2, L - 1, L, low, low + 1])
+        }
         8 => {
             let at = rows::slot_numbers(o) + random.below(2);
             row[at] = some(random, &[L - 1, L, low, low + 1, near, near + 1]);
         }
         9 => {
             // behind an empty slot any word stands
-            if let Some(o) = (0..16).map(|k| (o + k) % 16).find(|&o| row[rows::slot(o)] == 0) {
-                let at = rows::slot_numbers(o) + random.below(18);
-                row[at] = any;
+            if let Some(o) = (0..16).map(|k| (o + k) % 16).find(|&o| !rows::present(row, o)) {
+                let (slot, numbers) = (rows::slot(o) + random.below(4), rows::slot_numbers(o) + random.below(18));
+                row[some(random, &[slot, numbers, numbers, numbers])] = any;
             }
         }
         10 => row[rows::ACCEPTED + o] = some(random, &[0, L, near]),
@@ -84,5 +88,22 @@ pub fn change(random: &mut Random, row: &mut [u32]) {
             let at = rows::START + random.below(WORDS - rows::START);
             row[at] = some(random, &[L, L - 1, 0, near, near + 1, low]);
         }
+    }
+}
+
+// The bit of an office set or cleared, or bits that no office has. Where a slot comes to be present, half the time its
+// other words are any, with numbers that pass.
+fn change_presence(random: &mut Random, row: &mut [u32], o: usize) {
+    let (bits, bit) = (row[rows::PRESENT], 1 << o);
+    row[rows::PRESENT] =
+        some(random, &[bits & !bit, bits | bit, bits & !bit, bits | bit, bits | bit, bits | bit << 16, u32::MAX]);
+    if bits & bit == 0 && rows::present(row, o) && random.below(2) == 0 {
+        let (slot, numbers) = (rows::slot(o), rows::slot_numbers(o));
+        row[slot..slot + 4].fill_with(|| random.next() as u32);
+        row[slot + 1] = some(random, &[1, 2, row[slot + 1]]);
+        if random.below(2) == 0 {
+            row.copy_within(rows::NET..rows::NET + 2, slot + 2);
+        }
+        row[numbers..numbers + 18].fill_with(|| (random.next() % (L as u64 + 1)) as u32);
     }
 }

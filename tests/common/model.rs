@@ -1,5 +1,5 @@
-// The office of document 01, its step and its program, written from that document. Numbers are those of the document, and
-// the parts stand in its order.
+// The office of document 01, its step and its program, written from that document. Numbers are those of the
+// document, and the parts stand in its order.
 use std::io::Read;
 
 pub const L: u32 = 2_000_000_000;
@@ -151,10 +151,21 @@ pub struct Office {
 impl Office {
     pub fn fresh(own: usize) -> Office {
         let view = View { number: 0, members: 0, starts: [0; 16] };
-        Office { own, mode: Mode::None, net: 0, stored: [None; 16], accepted: [0; 16], view, start: 0, number: 0, used: [0; 16] }
+        Office {
+            own,
+            mode: Mode::None,
+            net: 0,
+            stored: [None; 16],
+            accepted: [0; 16],
+            view,
+            start: 0,
+            number: 0,
+            used: [0; 16],
+        }
     }
 
-    // One event: the number of document 01. What is written stands in `out`; a refusal leaves the office as it was and `out` empty.
+    // One event: the number of document 01. What is written stands in `out`; a refusal leaves the office as it was
+    // and `out` empty.
     pub fn step(&mut self, record: &[u8], room: usize, out: &mut Vec<u8>) -> u8 {
         out.clear();
         let refusal = self.refusal(record, room);
@@ -240,7 +251,9 @@ impl Office {
         match self.mode {
             Mode::None => true,
             Mode::Fast => self.matching().any(|p| p.kind == SLOW || p.used[self.own] == self.number),
-            Mode::Slow => self.matching().any(|p| p.used[self.own] == self.number || p.kind == SLOW && p.number > self.number),
+            Mode::Slow => {
+                self.matching().any(|p| p.used[self.own] == self.number || p.kind == SLOW && p.number > self.number)
+            }
         }
     }
 
@@ -289,7 +302,8 @@ impl Event<'_> {
     fn report(&mut self, joining: u64, leaving: u64) {
         let before = self.office.net;
         self.office.net = (before | joining) & !leaving;
-        // Change request 2: a report that leaves the net view equal to what it was does nothing. It makes no number, so 13 is not met.
+        // Change request 2: a report that leaves the net view equal to what it was does nothing. It makes no number,
+        // so 13 is not met.
         if self.office.net == before {
             return;
         }

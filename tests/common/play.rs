@@ -1,5 +1,5 @@
-// Plays of several offices that run by the model, with reports that come late, differ or repeat, lost and re-ordered proposals, and
-// forged ones. What one office is handed on the way is an input of the program.
+// Plays of several offices that run by the model, with reports that come late, differ or repeat, lost and re-ordered
+// proposals, and forged ones. What one office is handed on the way is an input of the program.
 use crate::model::{has_seat, offices, report, written_length, Office, Proposal, FAST, L, ROOM, SLOW};
 use crate::random::Random;
 use crate::repeats::{is_repeat, repeat};
@@ -119,8 +119,9 @@ impl Play {
         }
     }
 
-    // Seats leave one office's net view with its next report and come back with the one after, so that it proposes anew what others may have
-    // agreed on, and what slow proposals are stored for. In one case of four all seats but its own.
+    // Seats leave one office's net view with its next report and come back with the one after, so that it proposes
+    // anew what others may have agreed on, and what slow proposals are stored for. In one case of four all seats but
+    // its own.
     fn back(&mut self) {
         let to = self.some_office();
         let some = if self.random.below(4) == 0 { !(15 << (4 * to)) } else { self.some_seats() };

@@ -7,7 +7,8 @@ pub fn is_repeat(net: u64, record: &[u8]) -> bool {
     (net | set(record, 2)) & !set(record, 10) == net
 }
 
-// A repeat for an office with this net view. The last report again is one unless it was refused; before the first there is none.
+// A repeat for an office with this net view. The last report again is one unless it was refused; before the first
+// there is none.
 pub fn repeat(random: &mut Random, net: u64, last: &[u8]) -> Vec<u8> {
     let (some, more) = (random.next(), random.next());
     match random.below(6) {
@@ -29,7 +30,8 @@ pub const KINDS: [&str; 7] = [
     "a seat in both sets, the net view changed",
 ];
 
-// The reports that an office was handed, by kind. Repeats count where it has a seat in the net view: without one nothing happens in any case.
+// The reports that an office was handed, by kind. Repeats count where it has a seat in the net view: without one
+// nothing happens in any case.
 #[derive(Clone, Default)]
 pub struct Reports {
     // the last that was no repeat
@@ -43,7 +45,8 @@ pub struct Reports {
 }
 
 impl Reports {
-    // A report that passed checks 2 to 5, the office as it found it, and whether it was accepted with 0 bytes and the state as it was.
+    // A report that passed checks 2 to 5, the office as it found it, and whether it was accepted with 0 bytes and
+    // the state as it was.
     pub fn count(&mut self, office: &Office, record: &[u8], nothing: bool) {
         let (joining, leaving) = (set(record, 2), set(record, 10));
         let both = joining & leaving != 0;

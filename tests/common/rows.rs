@@ -1,27 +1,33 @@
 // A state as a row of words, by docs/LAYOUT.md, and the step on a row by the model.
 use crate::model::{Mode, Office, Proposal, View, FAST, SLOW};
 
-pub const WORDS: usize = 425;
+pub const WORDS: usize = 410;
 
 pub const OWN: usize = 0;
 pub const MODE: usize = 1;
 pub const NET: usize = 2;
 pub const VIEW_MEMBERS: usize = 4;
-pub const START: usize = 86;
-pub const NUMBER: usize = 87;
-pub const VIEW_NUMBER: usize = 88;
-const VIEW_STARTS: usize = 89;
-pub const ACCEPTED: usize = 105;
-const USED: usize = 121;
+// Bit o is set where a proposal is stored for office o.
+pub const PRESENT: usize = 6;
+pub const START: usize = 71;
+pub const NUMBER: usize = 72;
+pub const VIEW_NUMBER: usize = 73;
+const VIEW_STARTS: usize = 74;
+pub const ACCEPTED: usize = 90;
+const USED: usize = 106;
 
-// Of office o's stored proposal: present, sender, kind, two words of members.
+// Of the proposal stored for office o: sender, kind, two words of members.
 pub fn slot(o: usize) -> usize {
-    6 + 5 * o
+    7 + 4 * o
 }
 
 // Its start number, proposal number, sixteen used numbers.
 pub fn slot_numbers(o: usize) -> usize {
-    137 + 18 * o
+    122 + 18 * o
+}
+
+pub fn present(row: &[u32], o: usize) -> bool {
+    row[PRESENT] >> o & 1 == 1
 }
 
 fn set(row: &[u32], at: usize) -> u64 {
@@ -40,23 +46,26 @@ fn sixteen(row: &[u32], at: usize) -> [u32; 16] {
 // What is stored for an office. The rules ask of the kind only whether it is 1 or 2, and nothing of the sender.
 fn stored(row: &[u32], o: usize) -> Option<Proposal> {
     let (at, numbers) = (slot(o), slot_numbers(o));
-    (row[at] == 1).then(|| Proposal {
+    present(row, o).then(|| Proposal {
         sender: o as u8,
-        kind: if row[at + 2] <= 255 { row[at + 2] as u8 } else { 0 },
-        members: set(row, at + 3),
+        kind: if row[at + 1] <= 255 { row[at + 1] as u8 } else { 0 },
+        members: set(row, at + 2),
         start: row[numbers],
         number: row[numbers + 1],
         used: sixteen(row, numbers + 2),
     })
 }
 
-fn put_stored(row: &mut [u32], o: usize, p: Option<Proposal>) {
+// A proposal with its bit; or no bit, and zeros.
+pub fn put_stored(row: &mut [u32], o: usize, p: Option<Proposal>) {
     let (at, numbers) = (slot(o), slot_numbers(o));
-    row[at..at + 5].fill(0);
+    row[PRESENT] &= !(1 << o);
+    row[at..at + 4].fill(0);
     row[numbers..numbers + 18].fill(0);
     if let Some(p) = p {
-        row[at..at + 3].copy_from_slice(&[1, p.sender as u32, p.kind as u32]);
-        put_set(row, at + 3, p.members);
+        row[PRESENT] |= 1 << o;
+        row[at..at + 2].copy_from_slice(&[p.sender as u32, p.kind as u32]);
+        put_set(row, at + 2, p.members);
         row[numbers] = p.start;
         row[numbers + 1] = p.number;
         row[numbers + 2..numbers + 18].copy_from_slice(&p.used);
@@ -65,7 +74,7 @@ fn put_stored(row: &mut [u32], o: usize, p: Option<Proposal>) {
 
 // The state in some words; none where they are no row.
 pub fn read(row: &[u32]) -> Option<Office> {
-    if row.len() != WORDS || (0..16).any(|o| row[slot(o)] > 1) {
+    if row.len() != WORDS || row[PRESENT] >= 65_536 {
         return None;
     }
     let mode = *[Mode::None, Mode::Fast, Mode::Slow].get(row[MODE] as usize)?;
@@ -88,8 +97,25 @@ pub fn fresh(own: usize) -> Vec<u32> {
     row
 }
 
-// The number of document 01, with the row as it then is and what is written in `out`. A slot that the event neither fills nor
-// empties keeps its words.
+// All but the stored proposals, and but for the own office.
+pub fn put(row: &mut [u32], office: &Office) {
+    row[MODE] = match office.mode {
+        Mode::None => 0,
+        Mode::Fast => FAST as u32,
+        Mode::Slow => SLOW as u32,
+    };
+    put_set(row, NET, office.net);
+    put_set(row, VIEW_MEMBERS, office.view.members);
+    row[START] = office.start;
+    row[NUMBER] = office.number;
+    row[VIEW_NUMBER] = office.view.number;
+    row[VIEW_STARTS..VIEW_STARTS + 16].copy_from_slice(&office.view.starts);
+    row[ACCEPTED..ACCEPTED + 16].copy_from_slice(&office.accepted);
+    row[USED..USED + 16].copy_from_slice(&office.used);
+}
+
+// The number of document 01, with the row as it then is and what is written in `out`. A slot that the event neither
+// fills nor empties keeps its words.
 pub fn step(row: &mut [u32], record: &[u8], room: usize, out: &mut Vec<u8>) -> u8 {
     out.clear();
     let Some(before) = read(row) else { return 2 };
@@ -98,19 +124,7 @@ pub fn step(row: &mut [u32], record: &[u8], room: usize, out: &mut Vec<u8>) -> u
     if refusal != 0 {
         return refusal;
     }
-    row[MODE] = match after.mode {
-        Mode::None => 0,
-        Mode::Fast => FAST as u32,
-        Mode::Slow => SLOW as u32,
-    };
-    put_set(row, NET, after.net);
-    put_set(row, VIEW_MEMBERS, after.view.members);
-    row[START] = after.start;
-    row[NUMBER] = after.number;
-    row[VIEW_NUMBER] = after.view.number;
-    row[VIEW_STARTS..VIEW_STARTS + 16].copy_from_slice(&after.view.starts);
-    row[ACCEPTED..ACCEPTED + 16].copy_from_slice(&after.accepted);
-    row[USED..USED + 16].copy_from_slice(&after.used);
+    put(row, &after);
     for o in 0..16 {
         // a proposal of its own raises the own number
         let came = record.len() == 84 && record[2] as usize == o;

@@ -1,4 +1,5 @@
-// Change request 4, written from documents 01 and 02: the sync record, what a desk makes of its words, and who came along by a sheet of them.
+// Change request 4, written from documents 01 and 02: the sync record, what a desk makes of its words, and who came
+// along by a sheet of them.
 use crate::model::{has_seat, number, View, L};
 use crate::seat;
 
@@ -133,7 +134,8 @@ fn of_record(record: &[u8]) -> Vec<Reason> {
 pub fn reasons(sheet: &[u8], view: &[u8], own: u32) -> Vec<Found> {
     let before = of_view(view, own).into_iter().chain(of_sheet(sheet)).map(|reason| Found { reason, record: None });
     let records = sheet.chunks_exact(BYTES).enumerate();
-    let behind = records.flat_map(|(at, record)| of_record(record).into_iter().map(move |reason| Found { reason, record: Some(at) }));
+    let behind = records
+        .flat_map(|(at, record)| of_record(record).into_iter().map(move |reason| Found { reason, record: Some(at) }));
     before.chain(behind).collect()
 }
 

@@ -58,7 +58,10 @@ pub fn some_members(random: &mut Random) -> u64 {
     let half = random.next();
     let quarter = half & random.next();
     let eighth = quarter & random.next();
-    some(random, &[0, 1 << seat, 15 << (seat / 4 * 4), u64::MAX, half, quarter, eighth, eighth, eighth & half.rotate_left(9)])
+    some(
+        random,
+        &[0, 1 << seat, 15 << (seat / 4 * 4), u64::MAX, half, quarter, eighth, eighth, eighth & half.rotate_left(9)],
+    )
 }
 
 pub fn some_view(random: &mut Random, members: u64) -> View {
@@ -85,7 +88,8 @@ pub fn whole(random: &mut Random, view: &View, own: u32) -> Vec<Sync> {
     records
 }
 
-// A record of any seat, with the start number of its office, of any office, or another; it names the number or another.
+// A record of any seat, with the start number of its office, of any office, or another; it names the number or
+// another.
 pub fn beside(random: &mut Random, view: &View, own: u32) -> Sync {
     let seat = random.below(64);
     let right = view.starts[seat / 4];
@@ -121,7 +125,8 @@ pub fn shuffle<T>(random: &mut Random, all: &mut [T]) {
 
 // Damage
 
-// The ways in which a record is bad, each by itself or with what comes after it in the order; and edges that are not bad.
+// The ways in which a record is bad, each by itself or with what comes after it in the order; and edges that are not
+// bad.
 pub const BAD: [fn(&mut [u8]); 14] = [
     |record| record[0] = 0x52,
     |record| record[1] = 0x43,
@@ -182,7 +187,9 @@ fn damage_sheet(random: &mut Random, sheet: &mut Vec<u8>) {
 fn damage_view(random: &mut Random, view: &mut Vec<u8>) {
     let edge = any_edge(random);
     match random.below(6) {
-        0 if view.len() >= 2 => view[..2].copy_from_slice(some(random, &[b"SC", b"PR", b"NE", b"SY", b"WV", b"VV", b"WW"])),
+        0 if view.len() >= 2 => {
+            view[..2].copy_from_slice(some(random, &[b"SC", b"PR", b"NE", b"SY", b"WV", b"VV", b"WW"]))
+        }
         1 if view.len() == 78 => put(view, 2, edge),
         2 if view.len() == 78 => view[6 + random.below(8)] ^= 1 << random.below(8),
         3 | 4 if view.len() == 78 => put(view, 14 + 4 * random.below(16), edge),

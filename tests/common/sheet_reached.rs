@@ -1,7 +1,9 @@
 // What was met by the questions who came along, by the model.
 use crate::model::{has_seat, View, L};
 use crate::seat;
-use crate::sheet::{came_along, counting, is_in, reasons, records, Answer, Found, Reason, Sync, BYTES, LONGEST, MOST, REASONS};
+use crate::sheet::{
+    came_along, counting, is_in, reasons, records, Answer, Found, Reason, Sync, BYTES, LONGEST, MOST, REASONS,
+};
 use crate::tally::Tally;
 
 const OF_RECORD: usize = Reason::Mark as usize;
@@ -31,13 +33,15 @@ pub struct Reached {
     answers: [u64; 18],
     // the only reason that applies
     alone: [u64; REASONS.len()],
-    // the reason that decides, and one of another number that applies too: in the same record or after the view and the sheet; in a later record
+    // the reason that decides, and one of another number that applies too: in the same record or after the view and
+    // the sheet; in a later record
     orders: [[[u64; REASONS.len()]; REASONS.len()]; 2],
     // of each office: the only start number above L, the only one outside the members
     offices: [[u64; 2]; 16],
     // of each place on a sheet: the only bad record, by each reason
     places: [[u64; 4]; MOST],
-    // of each place on a sheet that is answered by a set: a member's only record that counts, the first of two that name different numbers
+    // of each place on a sheet that is answered by a set: a member's only record that counts, the first of two that
+    // name different numbers
     deciding: [[u64; 2]; MOST],
     seats: [[u64; OF_SEAT.len()]; 64],
     // of 512 records: refused, a seat missing, a set
@@ -118,9 +122,16 @@ impl Reached {
             }
         }
         if let Answer::Came(set) = answer {
-            (0..64).filter(|&seat| is_in(view.members, seat)).for_each(|seat| self.count_deciding(seat, records, view));
+            (0..64)
+                .filter(|&seat| is_in(view.members, seat))
+                .for_each(|seat| self.count_deciding(seat, records, view));
             let nobody = view.members == 0;
-            let said = [nobody && records.is_empty(), nobody && !records.is_empty(), !nobody && set == 0, !nobody && set == view.members];
+            let said = [
+                nobody && records.is_empty(),
+                nobody && !records.is_empty(),
+                !nobody && set == 0,
+                !nobody && set == view.members,
+            ];
             for (n, holds) in self.sets.iter_mut().zip(said) {
                 *n += holds as u64;
             }
@@ -178,7 +189,8 @@ fn can_meet(first: Reason, later: Reason) -> bool {
 
 impl Tally<Reached> {
     pub fn met(&mut self) {
-        let made = ["sync records made", "none for the words alone", "none for the seat alone", "none for the room alone"];
+        let made =
+            ["sync records made", "none for the words alone", "none for the seat alone", "none for the room alone"];
         for (at, what) in made.into_iter().enumerate() {
             self.often(what, self.reached.made[at], 1000);
         }
@@ -217,11 +229,13 @@ impl Tally<Reached> {
         for (first, later) in REASONS.iter().flat_map(|&(first, _)| REASONS.map(|(later, _)| (first, later))) {
             let [same, apart] = [0, 1].map(|at| self.reached.orders[at][first as usize][later as usize]);
             if can_meet(first, later) {
-                self.often(&format!("{} by {first:?} where {} by {later:?} applies too", first.number(), later.number()), same, 100);
+                self.often(&format!("{} by {first:?} where {} by {later:?} applies too",
+                    first.number(), later.number()), same, 100);
             }
             let of_records = first as usize >= OF_RECORD && later as usize >= OF_RECORD;
             if of_records && first.number() != later.number() {
-                self.often(&format!("{} by {first:?} before a record with {} by {later:?}", first.number(), later.number()), apart, 100);
+                self.often(&format!("{} by {first:?} before a record with {} by {later:?}",
+                    first.number(), later.number()), apart, 100);
             }
         }
     }
@@ -233,10 +247,17 @@ impl Tally<Reached> {
             let least = self.reached.seats[..seats].iter().map(|n| n[at]).min().unwrap();
             self.often(&format!("{what}, of the seat with fewest"), least, 10);
         }
-        for (at, what) in ["512 records, refused", "512 records, a seat missing", "512 records, a set"].into_iter().enumerate() {
+        for (at, what) in
+            ["512 records, refused", "512 records, a seat missing", "512 records, a set"].into_iter().enumerate()
+        {
             self.often(what, self.reached.full[at], 500);
         }
-        let sets = ["nobody, from no record", "nobody, from some records", "a set of none of the members", "a set of all members"];
+        let sets = [
+            "nobody, from no record",
+            "nobody, from some records",
+            "a set of none of the members",
+            "a set of all members",
+        ];
         for (at, what) in sets.into_iter().enumerate() {
             self.often(what, self.reached.sets[at], 100);
         }

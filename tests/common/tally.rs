@@ -1,4 +1,5 @@
-// Inputs compared, case by case, and what was met on the way. A case passes when it has inputs and the two agree on all of them.
+// Inputs compared, case by case, and what was met on the way. A case passes when it has inputs and the two agree on
+// all of them.
 use crate::verdicts::Verdicts;
 
 pub struct Tally<Reached> {

@@ -1,5 +1,6 @@
-// Worked sheets: the sync record that a desk makes, who came along by a sheet, the refusals and their order. What is expected is written from
-// documents 01 and 02. A try is one call: its answer, the bytes or the set after it. Bytes and sets that are not written are 170, as they were lent.
+// Worked sheets: the sync record that a desk makes, who came along by a sheet, the refusals and their order. What is
+// expected is written from documents 01 and 02. A try is one call: its answer, the bytes or the set after it. Bytes
+// and sets that are not written are 170, as they were lent.
 use crate::sheet_calls::{room_came_along, room_seat_sync};
 use crate::{notice, p, report, view, Tally, FAST, L, LENT_BYTE};
 
@@ -12,7 +13,8 @@ fn sync(seat: u8, start: u32, previous: u32) -> Vec<u8> {
 // The answer's refusal, its value, and the set after it.
 fn asked(sheet: &[u8], view: &[u8], previous: u32) -> (u32, u32, u64) {
     let mut members = LENT_SET;
-    let answer = unsafe { room_came_along(sheet.as_ptr(), sheet.len(), view.as_ptr(), view.len(), previous, &mut members) };
+    let answer =
+        unsafe { room_came_along(sheet.as_ptr(), sheet.len(), view.as_ptr(), view.len(), previous, &mut members) };
     (answer % 256, answer / 256, members)
 }
 
@@ -37,7 +39,8 @@ impl Tally {
     }
 }
 
-// View 3 of seats 0, 1 and 4, with start number 2 of office 0 and 1 of office 1. Seats 0 and 1 come from view 2, seat 4 from none.
+// View 3 of seats 0, 1 and 4, with start number 2 of office 0 and 1 of office 1. Seats 0 and 1 come from view 2,
+// seat 4 from none.
 fn view_3() -> Vec<u8> {
     view(3, 0x13, 2, 1)
 }
@@ -68,7 +71,8 @@ fn sync_records(t: &mut Tally) {
     t.makes("no room", &[4, 1, 2, 1], 0, unwritten(0));
     t.makes("no change open: the same record", &[4, 1, 2, 0], 11, (11, record.to_vec()));
     t.makes("a fresh seat", &[63, 0, 0, 0], 11, (11, sync(63, 0, 0)));
-    t.makes("numbers of four bytes", &[0, 0x0102_0304, 0x0506_0708, 1], 11, (11, b"SY\x00\x01\x02\x03\x04\x05\x06\x07\x08".to_vec()));
+    t.makes("numbers of four bytes",
+        &[0, 0x0102_0304, 0x0506_0708, 1], 11, (11, b"SY\x00\x01\x02\x03\x04\x05\x06\x07\x08".to_vec()));
     t.makes("numbers above L are written as they are", &[0, L + 1, u32::MAX, 1], 11, (11, sync(0, L + 1, u32::MAX)));
     t.makes("seat 64 is none", &[64, 1, 2, 1], 11, unwritten(11));
     t.makes("seat 260 is none", &[260, 1, 2, 1], 11, unwritten(11));
@@ -83,7 +87,8 @@ fn three(t: &mut Tally) {
     t.came("three desks, from view 1: nobody", &three_desks(), &view_3(), 1, 0);
     t.came("three desks, in another order", &[four.clone(), one.clone(), zero.clone()], &view_3(), 2, 0x03);
     let no_members = [sync(2, 2, 2), sync(5, 1, 2), sync(63, 0, 2)];
-    t.came("records of seats 2, 5 and 63, which are no members", &[&no_members[..], &three_desks()].concat(), &view_3(), 2, 0x03);
+    t.came("records of seats 2, 5 and 63, which are no members",
+        &[&no_members[..], &three_desks()].concat(), &view_3(), 2, 0x03);
     t.came("the last seat of all", &[sync(63, 0, 2)], &view(3, 1 << 63, 0, 0), 2, 1 << 63);
     t.came("numbers up to L", &[sync(0, L, L)], &view(L, 0x01, L, 0), L, 0x01);
     t.missing("without seat 0", &[one.clone(), four.clone()], &view_3(), 2, 0);
@@ -96,9 +101,12 @@ fn three(t: &mut Tally) {
 fn two_of_one_seat(t: &mut Tally) {
     let [zero, one, four] = three_desks();
     let from_1 = sync(1, 2, 1);
-    t.came("two records of seat 1, the first from view 2", &[zero.clone(), one.clone(), from_1.clone(), four.clone()], &view_3(), 2, 0x03);
-    t.came("two records of seat 1, the first from view 1", &[zero.clone(), from_1.clone(), one.clone(), four.clone()], &view_3(), 2, 0x01);
-    t.came("the same two, not side by side", &[from_1.clone(), zero.clone(), four.clone(), one.clone()], &view_3(), 2, 0x01);
+    t.came("two records of seat 1, the first from view 2",
+        &[zero.clone(), one.clone(), from_1.clone(), four.clone()], &view_3(), 2, 0x03);
+    t.came("two records of seat 1, the first from view 1",
+        &[zero.clone(), from_1.clone(), one.clone(), four.clone()], &view_3(), 2, 0x01);
+    t.came("the same two, not side by side",
+        &[from_1.clone(), zero.clone(), four.clone(), one.clone()], &view_3(), 2, 0x01);
     t.came("the same two, asked from view 1", &[from_1, zero, four, one], &view_3(), 1, 0x02);
 }
 
@@ -109,9 +117,11 @@ fn other_starts(t: &mut Tally) {
     t.missing("start number 1 of seat 1", &[zero.clone(), old.clone(), four.clone()], &view_3(), 2, 1);
     t.missing("a later start number", &[zero.clone(), sync(1, 3, 2), four.clone()], &view_3(), 2, 1);
     t.missing("office 0's start number at office 1", &[zero.clone(), one.clone(), sync(4, 2, 0)], &view_3(), 2, 4);
-    t.came("start number 1 of seat 1, then the right one", &[zero.clone(), old.clone(), one.clone(), four.clone()], &view_3(), 2, 0x03);
+    t.came("start number 1 of seat 1, then the right one",
+        &[zero.clone(), old.clone(), one.clone(), four.clone()], &view_3(), 2, 0x03);
     t.came("the right one, then start number 1", &[zero.clone(), one, old.clone(), four.clone()], &view_3(), 2, 0x03);
-    t.came("start number 1 from view 2, then the right one from view 1", &[zero, old, sync(1, 2, 1), four], &view_3(), 2, 0x01);
+    t.came("start number 1 from view 2, then the right one from view 1",
+        &[zero, old, sync(1, 2, 1), four], &view_3(), 2, 0x01);
 }
 
 fn empty(t: &mut Tally) {
@@ -124,7 +134,8 @@ fn full(t: &mut Tally) {
     let last = |before: Vec<u8>, records: usize, last: Vec<u8>| [vec![before; records - 1], vec![last]].concat();
     let of_0 = view(3, 0x01, 2, 0);
     t.came("512 records, of which the last counts", &last(sync(0, 1, 1), 512, sync(0, 2, 2)), &of_0, 2, 0x01);
-    t.came("512 records that count, of which the last comes from another view", &last(sync(0, 2, 2), 512, sync(0, 2, 1)), &of_0, 2, 0x01);
+    t.came("512 records that count, of which the last comes from another view",
+        &last(sync(0, 2, 2), 512, sync(0, 2, 1)), &of_0, 2, 0x01);
     t.missing("512 records, of which none counts", &vec![sync(0, 1, 2); 512], &of_0, 2, 0);
     t.not_read("512 records, of which the last has seat 64", &last(sync(0, 2, 2), 512, sync(64, 2, 2)), &of_0, 2, 6);
     t.not_read("513 records get 17", &last(sync(0, 1, 1), 513, sync(0, 2, 2)), &of_0, 2, 17);
@@ -154,13 +165,16 @@ fn sheet_refusals(t: &mut Tally) {
     let with = |record: &[u8]| [&three_desks()[..], &[record.to_vec()]].concat();
     t.not_read("a byte behind the records gets 17", &with(b"S"), &view_3(), 2, 17);
     t.not_read("ten bytes of a record get 17", &with(&sync(1, 2, 2)[..10]), &view_3(), 2, 17);
-    t.not_read("a record under another mark gets 4", &with(b"SC\x01\x00\x00\x00\x02\x00\x00\x00\x02"), &view_3(), 2, 4);
+    t.not_read("a record under another mark gets 4",
+        &with(b"SC\x01\x00\x00\x00\x02\x00\x00\x00\x02"), &view_3(), 2, 4);
     t.not_read("a record of seat 64 gets 6", &with(&sync(64, 2, 2)), &view_3(), 2, 6);
     t.not_read("a record of seat 255 gets 6", &with(&sync(255, 2, 2)), &view_3(), 2, 6);
     t.not_read("a record's start number above L gets 8", &with(&sync(1, L + 1, 2)), &view_3(), 2, 8);
     t.not_read("a record's previous view number above L gets 8", &with(&sync(1, 2, L + 1)), &view_3(), 2, 8);
-    t.not_read("a bad record of a seat that is no member gets its number", &with(&sync(63, L + 1, 2)), &view_3(), 2, 8);
-    t.not_read("a bad record behind a sheet without seat 0 gets its number", &with(&sync(1, 2, L + 1))[1..], &view_3(), 2, 8);
+    t.not_read("a bad record of a seat that is no member gets its number",
+        &with(&sync(63, L + 1, 2)), &view_3(), 2, 8);
+    t.not_read("a bad record behind a sheet without seat 0 gets its number",
+        &with(&sync(1, 2, L + 1))[1..], &view_3(), 2, 8);
     t.not_read("a bad record before an empty view gets its number", &[sync(64, 0, 0)], &view(3, 0, 0, 0), 2, 6);
 }
 

@@ -1,21 +1,17 @@
 -- For lacking: looking through a set of offices from the lowest on.
-use mathlib.Core.Path.{_≡_, refl, sym, ap, _∙_}
+use mathlib.Core.Path.{_≡_, refl, sym, _∙_}
 use mathlib.Core.Bool.{Bool, true, false, _&&_, _||_, not, and-true, and-false}
-use Prim.Native.Nat.{ℕ, _-_, _*_, _%_, _^_, _≤_, _<_}
+use Prim.Native.Nat.{ℕ, _^_, _<_}
 use native.Mathlib.Omega.{arith}
-use native.Mathlib.Decide.{decLt, ℕ-discrete}
-use native.Mathlib.Nat.{one-mul, mod-eq-of-lt}
-use lib.Pow.{pow-lt}
+use native.Mathlib.Decide.{ℕ-discrete}
 use lib.Dec.{eqb}
-use lib.Bits.{bitAnd, and-le-l}
-use borrow.Author.Tests.{eq-eqb, ne-eqb}
-use Rattle.laws.proofs.Fin.{true-false}
 use Rattle.laws.proofs.Lowest.{lowest-is, lowest-none, lowest-same}
 use Rattle.seats.specs.Seats.{has}
-use Rattle.seats.proofs.Laws.{has-and, has-not, has-one, has-empty}
+use Rattle.seats.proofs.Laws.{has-empty}
 use Rattle.seats.specs.Offices.{officesOf, lowestOf}
 use Rattle.seats.proofs.OfficeLaws.{has-offices}
-use Rattle.seats.proofs.Counts.{lowest-at-most, lowest-in, none-lower, empty-lowest}
+use Rattle.seats.proofs.Counts.{lowest-in, none-lower}
+use Rattle.seats.proofs.OfficeLoops.{dropped, low-office, low-other}
 use Rattle.seats.specs.declared.SeatSet.{SeatSet}
 use Rattle.rules.specs.State.{Mode, None, Fast, Slow, Slot, State, slow, kindOf, storedAt}
 use Rattle.rules.specs.Rules.{agreesKind, agreesIn, isNone}
@@ -61,36 +57,6 @@ module _ (kind number net : ℕ) (v : Slot) where
   unfolding agreesBy
   there e = rw e (parts-not (eqb (v .proposal .kind) kind) _ (eqb kind slow) _)
 
--- the set without office o, as the code makes it
-abbrev pub dropped : ℕ → ℕ → ℕ
-dropped b o = bitAnd b (2 ^ 16 - 1 - 1 * 2 ^ o % 2 ^ 16)
-
-has-dropped : (b o k : ℕ) → o < 16 → k < 16 → has (dropped b o) k ≡ has b k && not (eqb k o)
-has-dropped b o k h l =
-    let e : 1 * 2 ^ o % 2 ^ 16 ≡ 2 ^ o = rw one-mul (mod-eq-of-lt (pow-lt h)) in
-    rw e (has-and b (2 ^ 16 - 1 - 2 ^ o) k
-    ∙ ap (λ (t : Bool). has b k && t) (has-not 16 (2 ^ o) k l (pow-lt h) ∙ ap not (has-one o k)))
-
-module _ (b : ℕ) (lt : b < 2 ^ 16) (some : b ≡ 0 → ⊥) where
-  -- the lowest of some offices is one, and without it there are fewer
-  pub is-office : lowestOf b < 16
-  is-office = go (decLt (lowestOf b) 16) (lowest-at-most b)
-    where
-      go : Dec (lowestOf b < 16) → lowestOf b ≤ 16 → lowestOf b < 16
-      go (yes l) h = l
-      go (no n) h = absurd (some (empty-lowest b lt (omega arith)))
-
-  pub fewer : dropped b (lowestOf b) < b
-  fewer = go (ℕ-discrete (dropped b (lowestOf b)) b) (and-le-l b _)
-    where
-      gone : has (dropped b (lowestOf b)) (lowestOf b) ≡ false
-      gone = has-dropped b (lowestOf b) (lowestOf b) is-office is-office
-          ∙ rw (eq-eqb (lowestOf b) (lowestOf b) refl) (and-false (has b (lowestOf b)))
-
-      go : Dec (dropped b (lowestOf b) ≡ b) → dropped b (lowestOf b) ≤ b → dropped b (lowestOf b) < b
-      go (yes q) h = absurd (true-false _ (lowest-in b is-office) (rw q at gone))
-      go (no q) h = omega arith
-
 module _ (s : State) where
   -- before the first look
   pub looks-at-all : lowestIn s (officesOf (s .net .bits)) ≡ lowestLacking s
@@ -104,7 +70,7 @@ module _ (s : State) where
 
   module _ (b : ℕ) (lt : b < 2 ^ 16) (some : b ≡ 0 → ⊥) where
     abbrev low : lowestOf b < 16
-    low = is-office b lt some
+    low = low-office lt some refl
 
     -- the lowest has not the proposal
     pub stops : agreesIn (s .mode) s (lowestOf b) ≡ false → lowestIn s b ≡ lowestOf b
@@ -124,4 +90,4 @@ module _ (s : State) where
           and-false (has b (lowestOf b)),
           and-false (has (dropped b (lowestOf b)) (lowestOf b)),
         )
-        go k l (no q) = rw (has-dropped b (lowestOf b) k low l, ne-eqb k (lowestOf b) q, and-true (has b k))
+        go k l (no q) = rw (low-other lt some refl k l q)

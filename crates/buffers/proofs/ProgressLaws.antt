@@ -1,30 +1,61 @@
 -- For the module progress: what was sent, and the line behind what is unwritten.
-use mathlib.Core.Path.{_≡_, refl, _∙_}
-use mathlib.Core.Bool.{Bool}
-use mathlib.Core.Logic.{⊎-elim}
+use mathlib.Core.Path.{_≡_, refl, sym, ap, _∙_}
+use mathlib.Core.Bool.{Bool, false}
 use mathlib.Core.List.{List}
 use Prim.Native.Nat.{ℕ, _+_, _-_, _≤_}
 use native.Mathlib.Omega.{arith}
-use lib.ListN.{length, take}
+use lib.ListN.{length, take, drop, length-drop}
+use lib.Seq.{sets, length-take-le}
 use Rattle.laws.specs.Upd.{ifb}
+use Rattle.laws.proofs.Big.{sets-front}
+use Rattle.laws.proofs.Fin.{true-false}
+use Rattle.laws.proofs.Seqs.{drop-take}
 use Rattle.text.specs.Text.{lineOf}
 use Rattle.text.specs.Put.{Put}
 use Rattle.buffers.specs.Place.{unwrittenOf}
 use Rattle.buffers.specs.declared.input.Place.{Place}
-use Rattle.buffers.specs.Room.{bufferLength, Sent}
+use Rattle.buffers.specs.Room.{bufferLength, roomFor}
 use Rattle.buffers.proofs.Room.{put-behind}
 use Rattle.step.specs.declared.answers.Answer.{Answer}
 use Rattle.buffers.specs.Progress.{sentFrom, Emptied, Told}
 
-pub sent-few : {filled sent : ℕ} {waiting : Bool} → Sent filled waiting sent → sent ≤ filled
-sent-few h = ⊎-elim (λ e. omega arith) (λ e. omega arith) (h .all)
+-- nothing is written where the program may go on
+pub emptied-none : (p : Place) (waiting : Bool) (o : List ℕ) → Emptied p waiting o p o
+emptied-none p waiting o =
+    let z : p .filled - p .filled ≡ 0 = omega arith in
+    let y : p .filled - 0 ≡ p .filled = omega arith in
+    record { few = omega arith; place = rw (z, y); unasked = λ e. refl; unwritten = rw z }
 
-pub emptied : (p : Place) (waiting : Bool) (sent : ℕ) → Sent (p .filled) waiting sent
-    → Emptied p waiting (sentFrom p sent)
-emptied p waiting sent h =
-    let l = sent-few h in
-    let e : p .filled - (p .filled - sent) ≡ sent = omega arith in
-    record { sent = rw e h; place = rw e }
+-- what was not sent goes to the front
+pub emptied-some : (p : Place) {waiting may : Bool} (o : List ℕ) {o′ : List ℕ} (sent : ℕ) → p .filled ≤ length o
+    → may ≡ roomFor (p .filled) waiting → may ≡ false → sent ≤ p .filled
+    → o′ ≡ sets o 0 (take (p .filled - sent) (drop sent o)) → Emptied p waiting o (sentFrom p sent) o′
+unfolding unwrittenOf
+emptied-some p {waiting} o {o′} sent l r f s e =
+    let back : p .filled - (p .filled - sent) ≡ sent = omega arith in
+    record {
+      few = omega arith;
+      place = rw back;
+      unasked = λ t. absurd (true-false _ (r ∙ t) f);
+      unwritten = rw back (front ∙ sym (ap (λ (k : ℕ). drop sent (take k o)) sum
+          ∙ drop-take sent left o (omega arith)));
+    }
+  where
+    left : ℕ
+    left = p .filled - sent
+
+    sum : p .filled ≡ sent + left
+    sum = omega arith
+
+    rest : List ℕ
+    rest = take left (drop sent o)
+
+    size : length rest ≡ left
+    size = length-take-le left (drop sent o) (simp length-drop (omega arith))
+
+    front : take left o′ ≡ rest
+    front = ap (take left) e ∙ ap (λ (k : ℕ). take k (sets o 0 rest)) (sym size)
+        ∙ sets-front o rest (omega (arith, size))
 
 pub told : (traced : Bool) (p : Place) (taken : ℕ) (a : Answer) (view : ℕ) (out : List ℕ)
     {o o′ : List ℕ} {k next most : ℕ}

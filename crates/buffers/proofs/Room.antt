@@ -1,7 +1,6 @@
 -- For the module output: laws of the output buffer.
 use mathlib.Core.Path.{_≡_, refl, ap, _∙_}
 use mathlib.Core.Bool.{Bool, true, false}
-use mathlib.Core.Logic.{_⊎_, inl, inr, ⊎-elim}
 use mathlib.Core.List.{List, [], _++_}
 use Prim.Native.Nat.{ℕ, _+_, _-_, _≤_}
 use native.Mathlib.Omega.{arith}
@@ -11,7 +10,7 @@ use lib.Dec.{eqb, leb}
 use borrow.Author.Tests.{eqb-true, leb-true}
 use Rattle.laws.proofs.Fin.{true-false}
 use Rattle.text.specs.Put.{Put}
-use Rattle.buffers.specs.Room.{bufferLength, mostLine, roomFor, Sent}
+use Rattle.buffers.specs.Room.{bufferLength, mostLine, roomFor}
 
 -- the test of room
 pub room-waiting : (filled : ℕ) (t : Bool) → t ≡ true → eqb filled 0 ≡ roomFor filled t
@@ -46,17 +45,10 @@ put-behind {most} {at} {next} {o} {o′} {text} p h =
     rw (p .output, p .place, sets-eq text o at h)
     (take-at (take at o ++ text) (drop (at + length text) o) (at + length text) l)
 
+-- of what is due, no more is sent than there is
+pub due-few : {filled sent : ℕ} (o : List ℕ) {part : List ℕ} → filled ≤ length o → part ≡ take filled o
+    → sent ≤ length part → sent ≤ filled
+due-few {filled} o l e s = let n = ap length e ∙ length-take-le filled o l in omega arith
+
 pub nothing-due : (o : List ℕ) (n : ℕ) → n ≡ 0 → take n o ≡ []
 nothing-due o n h = rw h
-
--- how many bytes were written
-pub sent-none : {filled : ℕ} {waiting : Bool} → Sent filled waiting 0
-sent-none = record { all = inr refl; unasked = λ e. refl }
-
-pub sent-due : {filled sent : ℕ} {waiting may : Bool} (o : List ℕ) {part : List ℕ} → filled ≤ length o
-    → part ≡ take filled o
-    → (sent ≡ length part) ⊎ (sent ≡ 0) → may ≡ roomFor filled waiting → may ≡ false → Sent filled waiting sent
-sent-due {filled} o l e s r f = record {
-  all = ⊎-elim (λ z. inl (z ∙ ap length e ∙ length-take-le filled o l)) (λ z. inr z) s;
-  unasked = λ t. absurd (true-false _ (r ∙ t) f);
-}

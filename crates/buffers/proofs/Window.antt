@@ -8,17 +8,19 @@ use native.Mathlib.Omega.{arith}
 use lib.ListN.{length, getD, set, take, drop, length-drop, length-append}
 use lib.Seq.{sets, length-take-le, getD-drop, drop-at, drop-drop, take-append-add, take-append-le}
 use lib.Dec.{eqb, ltb}
-use borrow.Author.Tests.{eqb-true, eqb-false, ltb-true, ltb-false, lt-ltb, le-ltb}
+use borrow.Author.Tests.{eqb-true, eqb-false, ltb-true, ltb-false, lt-ltb, le-ltb, ne-eqb}
 use Rattle.laws.proofs.Fin.{true-false}
 use Rattle.laws.proofs.Big.{sets-front, sets-rest}
 use Rattle.laws.proofs.Seqs.{store-turn, drop-take}
-use Rattle.records.specs.Run.{runCheck}
+use Rattle.records.specs.Run.{runCheck, runSize}
 use Rattle.buffers.specs.Room.{bufferLength}
-use Rattle.buffers.specs.Place.{Within, windowOf, waitsOf, Refilled}
+use Rattle.buffers.specs.Place.{Within, windowOf, waitsOf, ReadBy, Refilled}
 use Rattle.buffers.specs.declared.input.Place.{Place}
+use Rattle.buffers.specs.declared.input.Read.{Read}
 use borrow.Rule.Slice.PartMut.{putMid, postOf}
 use Rattle.text.specs.Lines.{frontOf, behindOf}
-use Rattle.records.proofs.Growing.{short-ends}
+use Rattle.records.proofs.RunLaws.{Front, nothing, other, short, whole, front, size-le}
+use Rattle.records.proofs.Growing.{short-ends, whole-long}
 use Rattle.text.proofs.LineLaws.{front-behind}
 
 -- one more byte that goes to the front: it stands where it did, behind what has been put there
@@ -89,15 +91,39 @@ waits-cases false w = go (ltb (length w) 2) (eqb (runCheck w) 5) refl refl
         waits refl (omega arith) (rw (d, e)) (λ l z. omega arith)
     go false false d e = ready (inr (ltb-false (length w) 2 d, eqb-false (runCheck w) 5 e)) (rw (d, e))
 
+-- where the program waits, no whole record stands in front
+pub waits-none : (ended : Bool) (w : List ℕ) → waitsOf ended w ≡ true → runSize w ≡ 0
+unfolding runSize
+waits-none ended w t = go (waits-cases ended w)
+  where
+    by-front : (2 ≤ length w → runCheck w ≡ 0 → ⊥) → Front w → runSize w ≡ 0
+    by-front g (nothing l e) = let z = size-le w in omega arith
+    by-front g (other l n e) = rw (ne-eqb (runCheck w) 0 (λ z. omega arith))
+    by-front g (short l n e) = rw (ne-eqb (runCheck w) 0 (λ z. omega arith))
+    by-front g (whole p l e s) = absurd (g (whole-long w (omega arith) e) e)
+
+    go : Waits ended w → runSize w ≡ 0
+    go (ready r f) = absurd (true-false (waitsOf ended w) t f)
+    go (waits n few l g) = by-front g (front w)
+
 -- reading: the window goes to the front, what was read behind it
-pub refilled : (p : Place) (i i₁ v : List ℕ) (got : ℕ) → Within p → length i ≡ bufferLength
+pub refilled : (p : Place) (i i₁ v : List ℕ) (b : Read) → Within p → length i ≡ bufferLength
     → i₁ ≡ sets i 0 (take (p .end - p .at) (drop (p .at) i)) → length i₁ ≡ length i
-    → length v ≡ bufferLength - (p .end - p .at) → got ≤ length v
+    → length v ≡ bufferLength - (p .end - p .at) → ReadBy (length v) b
     → Refilled p i
-    (record { ended = eqb got 0; at = 0; end = p .end - p .at + got; filled = p .filled; number = p .number })
+    (record {
+      unread = b .failed;
+      place = record {
+        ended = b .ended;
+        at = 0;
+        end = p .end - p .at + b .got;
+        filled = p .filled;
+        number = p .number;
+      };
+    })
     (putMid (p .end - p .at) (length i₁ - (p .end - p .at)) i₁ v)
 unfolding windowOf
-refilled p i i₁ v got h l e le lv g = record {
+refilled p i i₁ v b h l e le lv is = record {
   within = record {
     unread = omega arith;
     read = let a = h .unread in let b = h .read in omega arith;
@@ -107,9 +133,16 @@ refilled p i i₁ v got h l e le lv g = record {
   filled = refl;
   got = take got v;
   window = window;
-  ended = rw (length-take-le got v g);
+  ended = λ f. rw (length-take-le got v g) (is .ended f);
+  unread = λ f. (ap (λ (k : ℕ). take k v) (is .failed f .0), is .failed f .1);
 }
   where
+    got : ℕ
+    got = b .got
+
+    g : got ≤ length v
+    g = is .fits
+
     n : ℕ
     n = p .end - p .at
 

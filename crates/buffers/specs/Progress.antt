@@ -1,25 +1,27 @@
 -- Where the program stands once it has written, and once it has a line to write.
 use mathlib.Core.Path.{_≡_}
-use mathlib.Core.Bool.{Bool}
+use mathlib.Core.Bool.{Bool, true}
 use mathlib.Core.List.{List, _++_}
 use Prim.Native.Nat.{ℕ, _+_, _-_, _^_, _≤_, _<_}
-use lib.ListN.{length, take}
+use lib.ListN.{length, take, drop}
 use Rattle.laws.specs.Upd.{ifb}
 use Rattle.rules.specs.Refusals.{fullRoom}
 use Rattle.text.specs.Text.{lineOf}
 use Rattle.buffers.specs.Place.{unwrittenOf}
 use Rattle.buffers.specs.declared.input.Place.{Place}
-use Rattle.buffers.specs.Room.{bufferLength, mostLine, Sent}
+use Rattle.buffers.specs.Room.{bufferLength, mostLine, roomFor}
 use Rattle.step.specs.declared.answers.Answer.{Answer}
 
 -- the place after a write of some of the unwritten bytes
 abbrev pub sentFrom : Place → ℕ → Place
 sentFrom p sent = record { ended = p .ended; at = p .at; end = p .end; filled = p .filled - sent; number = p .number }
 
--- what is no longer unwritten was sent
-pub record Emptied (p : Place) (waiting : Bool) (r : Place) : Type 0 where
-  pub sent : Sent (p .filled) waiting (p .filled - r .filled)
+-- what is no longer unwritten was sent: the front of it, and nothing where the program may go on
+pub record Emptied (p : Place) (waiting : Bool) (o : List ℕ) (r : Place) (o′ : List ℕ) : Type 0 where
+  pub few : r .filled ≤ p .filled
   pub place : r ≡ sentFrom p (p .filled - r .filled)
+  pub unasked : roomFor (p .filled) waiting ≡ true → r .filled ≡ p .filled
+  pub unwritten : unwrittenOf r o′ ≡ drop (p .filled - r .filled) (unwrittenOf p o)
 
 -- a record of so many bytes can be answered: it stands in the input buffer, and its line has room and a number
 pub record LineFits (p : Place) (taken : ℕ) (a : Answer) (out o : List ℕ) : Type 0 where

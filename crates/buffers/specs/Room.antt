@@ -1,7 +1,5 @@
--- When the unwritten bytes are written, and how many of them.
-use mathlib.Core.Path.{_≡_}
-use mathlib.Core.Bool.{Bool, true}
-use mathlib.Core.Logic.{_⊎_}
+-- When the unwritten bytes are written.
+use mathlib.Core.Bool.{Bool}
 use Prim.Native.Nat.{ℕ, _-_}
 use lib.Dec.{eqb, leb}
 use Rattle.laws.specs.Upd.{ifb}
@@ -19,8 +17,3 @@ mostLine = lineLength fullRoom
 -- the program may go on before it writes: nothing is unwritten where it is going to wait, else a line has room
 unfoldable pub roomFor : ℕ → Bool → Bool
 roomFor filled waiting = ifb waiting (eqb filled 0) (leb filled (bufferLength - mostLine))
-
--- how many of the unwritten bytes were written: none where the program may go on, else all, or none where it failed
-pub record Sent (filled : ℕ) (waiting : Bool) (sent : ℕ) : Type 0 where
-  pub all : (sent ≡ filled) ⊎ (sent ≡ 0)
-  pub unasked : roomFor filled waiting ≡ true → sent ≡ 0

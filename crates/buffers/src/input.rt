@@ -1,11 +1,12 @@
 // The input buffer of the program, inner to it: its bytes read and not yet answered; where the program stands.
+use crate::retry::tries_left;
 ghost use mathlib.Core.Path.{_≡_};
 ghost use Prim.Native.Nat.{_+_, _-_, _<_, _≤_};
 ghost use lib.ListN.{length, take, drop};
 ghost use lib.Seq.{sets};
 ghost use Rattle.text.specs.Lines.{frontOf};
 ghost use Rattle.buffers.specs.Room.{bufferLength};
-ghost use Rattle.buffers.specs.Place.{Within, windowOf, waitsOf, Refilled};
+ghost use Rattle.buffers.specs.Place.{Within, windowOf, waitsOf, ReadBy, Refilled};
 
 // Of the input buffer the bytes from `at` to `end` are still to be answered, of the output buffer the first `filled`
 // still to be written. `ended` says that the input has no more, `number` how many records were answered.
@@ -17,8 +18,21 @@ pub struct Place {
     pub number: u64,
 }
 
+// What a read came to: so many bytes, the end of the input, or a failure for good.
+pub struct Read {
+    pub got: usize,
+    pub ended: bool,
+    pub failed: bool,
+}
+
+// Where the program stands after a read, which may have failed.
+pub struct Grown {
+    pub unread: bool,
+    pub place: Place,
+}
+
 // The n bytes from a place on go to the front.
-fn to_front(buf: &mut [u8], at: usize, n: usize)
+pub(crate) fn to_front(buf: &mut [u8], at: usize, n: usize)
     requires { ⌜ at + n ≤ length (now buf) ⌝ }
     ensures { λ _. ⌜ now (buf .exit) ≡ sets (now (buf .entry)) 0 (take n (drop at (now (buf .entry)))) ⌝ }
 {
@@ -29,29 +43,50 @@ fn to_front(buf: &mut [u8], at: usize, n: usize)
     }
 }
 
-// What the input has now, at most as much as fits; 0 at its end, and where it cannot be read.
-fn read_some(part: &mut [u8]) -> usize
+// What the input has next, at most as much as fits; it is waited for.
+pub fn read_some(part: &mut [u8]) -> Read
     requires { ⌜ 0 < length (now part) ⌝ }
-    ensures { λ r. ⌜ r ≤ length (now (part .exit)) ⌝ }
+    ensures { λ r. ⌜ ReadBy (length (now (part .exit))) r ⌝ }
 {
-    let got = libc::read(0, part);
-    io::count(got, part)
+    let mut answer: isize = 0;
+    let mut tries = u64::MAX;
+    while tries > 0 {
+        answer = libc::read(0, part);
+        tries = tries_left(answer, tries);
+    }
+    if answer < 0 {
+        return Read {
+            got: 0,
+            ended: false,
+            failed: true,
+        };
+    }
+    let got = io::count(answer, part);
+    Read {
+        got,
+        ended: got == 0,
+        failed: false,
+    }
 }
 
-// What is still to be answered goes to the front of the buffer, and what the input has now behind it.
-pub fn refill(p: Place, input: &mut [u8]) -> Place
+// What is still to be answered goes to the front of the buffer, and what the input has next behind it.
+pub fn refill(p: Place, input: &mut [u8]) -> Grown
     requires { ⌜ Within p × (length (now input) ≡ bufferLength) × (p .end - p .at < bufferLength) ⌝ }
     ensures { λ r. ⌜ Refilled p (now (input .entry)) r (now (input .exit)) ⌝ }
 {
     let n = p.end - p.at;
     to_front(input, p.at, n);
-    let got = read_some(&mut input[n..]);
-    Place {
-        ended: got == 0,
+    let read = read_some(&mut input[n..]);
+    let place = Place {
+        ended: read.ended,
         at: 0,
-        end: n + got,
+        end: n + read.got,
         filled: p.filled,
         number: p.number,
+    };
+    Grown {
+        unread: read.failed,
+        place,
     }
 }
 
@@ -75,9 +110,6 @@ pub fn front<'a>(input: &'a [u8], at: usize, end: usize) -> &'a [u8]
     ensures { λ r. ⌜ now r ≡ frontOf (take (end - at) (drop at (now (input .entry)))) ⌝ }
 {
     let run = &input[at..end];
-    if records::run::run_check(run) == 0 {
-        records::run::run_first(run)
-    } else {
-        run
-    }
+    let first = records::run::run_first(run);
+    if first.len() == 0 { run } else { first }
 }

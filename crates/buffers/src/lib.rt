@@ -6,5 +6,8 @@ pub mod input;
 // The lines not yet written, and when they are.
 pub mod output;
 
+// Whether a call that failed is tried again.
+mod retry;
+
 // Where the program stands after a write and after a line.
 pub mod progress;

@@ -1,6 +1,9 @@
 // Where the program stands once it has written, and once it has a line to write; inner to the program.
 use crate::input::Place;
-use crate::output::make_room;
+use crate::input::to_front;
+use crate::output::due;
+use crate::output::flush;
+use crate::output::has_room;
 ghost use mathlib.Core.Path.{_≡_};
 ghost use Prim.Native.Nat.{_≤_};
 ghost use lib.ListN.{length};
@@ -8,17 +11,23 @@ ghost use Rattle.laws.specs.Upd.{ifb};
 ghost use Rattle.buffers.specs.Progress.{Emptied, LineFits, Told};
 use step::answers::Answer;
 
-// What is unwritten is written before the program waits, and where a line could have no room.
-pub fn emptied(p: Place, output: &[u8], waiting: bool) -> Place
+// What is unwritten is written before the program waits, and where a line could have no room; what a failed write left
+// over goes to the front.
+pub fn emptied(p: Place, output: &mut [u8], waiting: bool) -> Place
     requires { ⌜ p .filled ≤ length (now output) ⌝ }
-    ensures { λ r. ⌜ Emptied p waiting r ⌝ }
+    ensures { λ r. ⌜ Emptied p waiting (now (output .entry)) r (now (output .exit)) ⌝ }
 {
-    let sent = make_room(output, p.filled, waiting);
+    if has_room(p.filled, waiting) {
+        return p;
+    }
+    let sent = flush(1, due(output, p.filled));
+    let left = p.filled - sent;
+    to_front(output, sent, left);
     Place {
         ended: p.ended,
         at: p.at,
         end: p.end,
-        filled: p.filled - sent,
+        filled: left,
         number: p.number,
     }
 }

@@ -8,7 +8,7 @@ use native.Mathlib.Decide.{ℕ-discrete}
 use lib.ListN.{length, set}
 use mir.Val.{boolByte}
 use borrow.Author.Tests.{ne-eqb}
-use Rattle.laws.specs.Upd.{ifb}
+use Rattle.laws.proofs.Loops.{flag}
 use Rattle.desk.specs.declared.checks.Desk.{Desk}
 use Rattle.desk.specs.declared.Heard.{Heard}
 use Rattle.desk.specs.Hearing.{madeDesk, hearOf}
@@ -16,10 +16,6 @@ use Rattle.desk.specs.Syncing.{syncBytes}
 use Rattle.desk.proofs.HearingLaws.{refusal-keeps}
 use Rattle.calls.specs.SeatWords.{deskLength, isSeat, deskOf, deskWords}
 use Rattle.calls.specs.SeatWords.{freshInWords, heardInWords, hearInWords, syncInWords}
-
-flag : (b : Bool) → boolByte b ≡ ifb b 1 0
-flag true = refl
-flag false = refl
 
 -- every word is written
 pub all-written : (ws : List ℕ) (d : Desk) → length ws ≡ deskLength

@@ -1,5 +1,6 @@
 -- office
 mod Called
+mod ReportFits
 -- seat
 pub mod InSeatWords
 -- restarts

@@ -1,11 +1,17 @@
--- The step as a call from C: one number as its answer, the words and the bytes at the end.
+-- A report's bytes, and the step as a call from C: one number as its answer, the words and the bytes at the end.
 use mathlib.Core.List.{List}
 use Prim.Native.Nat.{ℕ}
 use lib.ListN.{length}
 use lib.Seq.{sets}
+use Rattle.records.specs.Layout.{encodeReport}
 use Rattle.rules.specs.Refusals.{allBytes, size}
 use Rattle.step.specs.Step.{RowResult, stepRow}
 use Rattle.calls.specs.Number.{callNumber}
+
+-- the report of two sets
+unfoldable pub reportBytes : ℕ → ℕ → List ℕ
+reportBytes joining leaving =
+    encodeReport (record { joining = record { bits = joining }; leaving = record { bits = leaving } })
 
 pub record Called : Type 0 where
   pub answer : ℕ

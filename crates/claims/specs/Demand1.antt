@@ -29,7 +29,8 @@ use Rattle.code_runs.specs.Rows.{Handed, rowAfter, rowSent, inputsOf}
 use Rattle.text.specs.Lines.{textOf}
 use Rattle.text.proofs.Example as Example
 use Rattle.feed.specs.Made.{StateMade}
-use Rattle.feed.specs.Whole.{Stand, Run}
+use Rattle.feed.specs.Turn.{Stand}
+use Rattle.feed.specs.Whole.{Run, Broken, writtenBy, Answers}
 
 -- a number that the step gives for some state, bytes and output
 abbrev pub Met : ℕ → Type 0
@@ -99,6 +100,14 @@ pub record Program : Type 0 where
   pub whole-text : {traced : Bool} {office n : ℕ} {ws input output : List ℕ} {b : Stand} → StateMade office true ws
       → Run traced ws n input output false b → (f : List ℕ) → (b .ended ≡ true → f ≡ [])
       → textOf traced (office ∷ (input ++ f)) ≡ output ++ b .unwritten
+  -- Before that it has answered records that came whole: what was written and what is unwritten are the text for
+  -- these, and there is no line for the rest.
+  pub going-text : {traced : Bool} {office n : ℕ} {ws input output : List ℕ} {b : Stand} → StateMade office true ws
+      → Run traced ws n input output true b → Answers traced office input output b
+  -- So it is where a read or a write fails; where a read does, all is written.
+  pub fault-text : {traced unread : Bool} {office : ℕ} {ws : List ℕ} {b : Stand} → StateMade office true ws
+      → (k : Broken traced ws unread b)
+      → Answers traced office (k .input) (writtenBy k) b × (unread ≡ true → b .unwritten ≡ [])
   -- No office byte counts as one above 15.
   pub no-office : (traced : Bool) (f : List ℕ) → textOf traced [] ≡ textOf traced (16 ∷ f)
   -- For office 0 and the records of A, B, C, D the text is document 01's four lines.

@@ -10,14 +10,12 @@ ghost use Rattle.desk.specs.Views.{viewAbove, viewStray};
 pub fn view_above(v: View) -> bool
     ensures { λ r. ⌜ r ≡ viewAbove v ⌝ }
 {
-    let starts = v.starts;
-    (LIMIT < v.number) | above_limit(starts)
+    (LIMIT < v.number) | above_limit(&v.starts)
 }
 
 // Check 10: whether a view's start number is not 0 for an office outside the members.
 pub fn view_stray(v: View) -> bool
     ensures { λ r. ⌜ r ≡ viewStray v ⌝ }
 {
-    let starts = v.starts;
-    stray_number(v.members, starts)
+    stray_number(v.members, &v.starts)
 }

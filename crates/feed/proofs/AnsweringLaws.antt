@@ -35,12 +35,13 @@ pub answered : (traced : Bool) {ws : List ℕ} (p : Place) (b : List ℕ) {o o�
     → HeldStep (stepOf (stateOf ws) b fullRoom) out (a .refusal) (a .written) ws′ out′ → length out ≡ fullRoom
     → view ≡ stateOf ws′ .view .number
     → Told traced p (length b) a view out′ o r o′ → more ≡ goesOn (a .refusal)
-    → Answered traced ws p b o (record { more = more; place = r }) ws′ o′
+    → Answered traced ws p b o (record { more = more; unread = false; place = r }) ws′ o′
 unfolding lineFor
 answered traced {ws} p b h l v t m = record {
   sound = h .sound;
   state = h .same-state;
   more = m ∙ ap goesOn (h .same-refusal);
+  unread = refl;
   ended = ap (λ (x : Place). x .ended) (t .place);
   at = ap (λ (x : Place). x .at) (t .place);
   end = ap (λ (x : Place). x .end) (t .place);

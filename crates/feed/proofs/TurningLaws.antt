@@ -1,32 +1,33 @@
 -- For the module turning: what each function of a turn shows, over plain values: the text that is due stays due.
 use mathlib.Core.Path.{_≡_, refl, sym, ap, _∙_}
-use mathlib.Core.Bool.{Bool, true, false}
+use mathlib.Core.Bool.{Bool, true, false, not}
 use mathlib.Core.Logic.{_⊎_, inl, inr, ⊎-elim}
-use mathlib.Core.List.{List, [], _++_, append-nil, append-assoc}
+use mathlib.Core.List.{List, [], _∷_, _++_, flatten, append-nil, append-assoc}
 use Prim.Native.Nat.{ℕ, _+_, _-_, _≤_, _<_}
 use native.Mathlib.Omega.{arith}
 use native.Mathlib.Nat.{pos-of-ne-zero}
-use lib.ListN.{length, take, drop, length-take, drop-of-length-le}
+use lib.ListN.{length, take}
 use lib.Seq.{length-take-le}
 use lib.Dec.{eqb}
 use borrow.Author.Tests.{eqb-false}
 use Rattle.laws.proofs.Fin.{true-false}
+use Rattle.laws.specs.Lists.{none, more}
 use Rattle.records.specs.Run.{runCheck}
 use Rattle.row.specs.Row.{stateOf}
 use Rattle.text.specs.Lines.{frontOf, behindOf, answerFor, lineFor}
 use Rattle.step.specs.Held.{Sound}
 use Rattle.feed.specs.TurnReady.{TurnReady}
 use Rattle.buffers.specs.Place.{Within, windowOf, unwrittenOf, waitsOf, Refilled}
-use Rattle.buffers.specs.Room.{bufferLength, roomFor, Sent}
+use Rattle.buffers.specs.Room.{bufferLength, roomFor}
 use Rattle.feed.specs.Answered.{Answered}
 use Rattle.buffers.specs.Progress.{sentFrom, Emptied}
-use Rattle.buffers.proofs.ProgressLaws.{sent-few}
-use Rattle.feed.specs.Turn.{Advances, Turns}
+use Rattle.feed.specs.Turn.{Stand, standAt, sentAt, Keeps, Advances, Turns}
 use Rattle.buffers.specs.declared.input.Place.{Place}
+use Rattle.buffers.specs.declared.input.Grown.{Grown}
 use Rattle.feed.specs.declared.answering.Advanced.{Advanced}
 use Rattle.records.proofs.RunLaws.{Front, nothing, other, short, whole, front}
 use Rattle.records.proofs.Growing.{whole-long}
-use Rattle.text.proofs.LineLaws.{front-behind, lines-nil, Decided, entire, last, marked, decided-text}
+use Rattle.text.proofs.LineLaws.{front-behind, lines-nil, Decided, entire, last, marked, decided-text, came-whole}
 use Rattle.buffers.proofs.Window.{window-left, front-fits, Waits, waits, ready, waits-cases}
 use Rattle.buffers.proofs.Room.{room-none, room-nothing, nothing-due}
 
@@ -38,23 +39,45 @@ unwaited ended w e h t = go (waits-cases ended w)
     go (ready r f) = true-false (waitsOf ended w) t f
     go (waits n few l g) = ⊎-elim (λ z. g (whole-long w h z) z) (λ y. true-false ended y n) e
 
+-- what a stand is made of
+same-stand : {ws : List ℕ} {ended ended′ : Bool} {n n′ : ℕ} {w w′ u u′ : List ℕ} → ended ≡ ended′ → n ≡ n′ → w ≡ w′
+    → u ≡ u′
+    → _≡_ {A = Stand} (record { words = ws; ended = ended; number = n; window = w; unwritten = u })
+    (record { words = ws; ended = ended′; number = n′; window = w′; unwritten = u′ })
+same-stand e n w u = rw (e, n, w, u)
+
 module _ (traced : Bool) {ws : List ℕ} (p : Place) (i o : List ℕ) (sound : Sound ws) (in-place : Within p) where
   -- more of the input
-  pub advances-read : {i′ : List ℕ} {r : Place} → waitsOf (p .ended) (windowOf p i) ≡ true → Refilled p i r i′
-      → Advances traced ws p i o (record { more = true; place = r }) ws i′ o
-  unfolding unwrittenOf
+  pub advances-read : {i′ : List ℕ} {r : Grown} → waitsOf (p .ended) (windowOf p i) ≡ true → Refilled p i r i′
+      → Advances traced ws p i o (record { more = not (r .unread); unread = r .unread; place = r .place }) ws i′ o
+  unfolding unwrittenOf flatten
   advances-read {i′} {r} t h = record {
     within = h .within;
     sound = sound;
-    keeps = record {
+    number = omega (arith, h .number);
+    unread = λ y. (
+      t,
+      rw y,
+      let w : windowOf (r .place) i′ ≡ windowOf p i = h .window ∙ rw (h .unread y .0) (append-nil (windowOf p i)) in
+          let e : r .place .ended ≡ p .ended = h .unread y .1 ∙ sym unended-false in
+          same-stand e (h .number) w (ap (λ (k : ℕ). take k o) (h .filled)),
+    );
+    keeps = λ y. record {
       got = h .got;
       printed = [];
       buffer = rw (h .filled) (sym (append-nil (take (p .filled) o)));
-      text = λ f e. rw (h .window, h .number, append-assoc (windowOf p i) (h .got) f);
+      text = λ f e. rw (y, h .window, h .number, append-assoc (windowOf p i) (h .got) f);
+      takes = λ m. record {
+        parts = [];
+        whole = none;
+        count = omega (arith, h .number);
+        left = sym (h .window);
+        lines = λ f. rw (h .number);
+      };
       end = λ e. absurd (unended e);
       number = omega (arith, h .number);
       took = λ e l. absurd (unwaited (p .ended) (windowOf p i) e l t);
-      read = λ e. some (eqb (length (h .got)) 0) refl;
+      read = λ e. some y (eqb (length (h .got)) 0) refl;
       stops = λ e. absurd (unended e);
     };
   }
@@ -66,22 +89,33 @@ module _ (traced : Bool) {ws : List ℕ} (p : Place) (i o : List ℕ) (sound : S
           go (ready y f) = true-false (waitsOf (p .ended) (windowOf p i)) t f
           go (waits n few l g) = true-false (p .ended) e n
 
-      some : (t : Bool) → eqb (length (h .got)) 0 ≡ t → (0 < length (h .got)) ⊎ (r .ended ≡ true)
-      some true e = inr (h .ended ∙ e)
-      some false e = inl (pos-of-ne-zero (eqb-false (length (h .got)) 0 e))
+      unended-false : p .ended ≡ false
+      unended-false = go (p .ended) refl
+        where
+          go : (b : Bool) → p .ended ≡ b → p .ended ≡ false
+          go true e = absurd (unended e)
+          go false e = e
+
+      some : r .unread ≡ false → (t : Bool) → eqb (length (h .got)) 0 ≡ t
+          → (0 < length (h .got)) ⊎ (r .place .ended ≡ true)
+      some y true e = inr (h .ended y ∙ e)
+      some y false e = inl (pos-of-ne-zero (eqb-false (length (h .got)) 0 e))
 
   -- nothing is left, and nothing comes
   pub advances-stop : waitsOf (p .ended) (windowOf p i) ≡ false → length (windowOf p i) ≡ 0
-      → Advances traced ws p i o (record { more = false; place = p }) ws i o
+      → Advances traced ws p i o (record { more = false; unread = false; place = p }) ws i o
   advances-stop t h = record {
     within = in-place;
     sound = sound;
-    keeps = record {
+    number = omega arith;
+    unread = λ y. absurd (true-false false y refl);
+    keeps = λ y. record {
       got = [];
       printed = [];
       buffer = sym (append-nil (unwrittenOf p o));
       text = λ f e. lines-nil traced (stateOf ws) (p .number) (windowOf p i ++ f)
           (rw (e ended, append-nil (windowOf p i)) h);
+      takes = λ m. absurd (true-false false m refl);
       end = λ e. (e, refl);
       number = omega arith;
       took = λ e l. absurd (omega arith);
@@ -102,6 +136,7 @@ module _ (traced : Bool) {ws : List ℕ} (p : Place) (i o : List ℕ) (sound : S
   pub advances-answer : {ws′ o′ : List ℕ} {r : Advanced} → length i ≡ bufferLength
       → waitsOf (p .ended) (windowOf p i) ≡ false → 0 < length (windowOf p i)
       → Answered traced ws p (frontOf (windowOf p i)) o r ws′ o′ → Advances traced ws p i o r ws′ i o′
+  unfolding flatten
   advances-answer {ws′} {o′} {r} li t h a = record {
     within = record {
       unread = omega (arith, a .at, a .end, l);
@@ -109,12 +144,24 @@ module _ (traced : Bool) {ws : List ℕ} (p : Place) (i o : List ℕ) (sound : S
       unwritten = a .filled;
     };
     sound = a .sound;
-    keeps = record {
+    number = omega (arith, a .number);
+    unread = λ y. absurd (true-false (r .unread) y (a .unread));
+    keeps = λ u. record {
       got = [];
       printed = lineFor traced (p .number + 1) (answerFor (stateOf ws) v);
       buffer = a .line;
       text = λ f z. decided-text traced (stateOf ws) (p .number) (sound .well) v f h (decided f z)
           ∙ rw (left, a .more, a .number, a .state);
+      takes = λ m.
+          let k = came-whole traced (stateOf ws) (p .number) (sound .well) v h (sym (a .more) ∙ m) in
+          let e : frontOf v ++ [] ≡ frontOf v = append-nil (frontOf v) in
+          record {
+            parts = frontOf v ∷ [];
+            whole = more (k .0) none;
+            count = a .number;
+            left = rw (e, left, append-nil v) (sym (front-behind v));
+            lines = λ f. rw (e, a .state, a .number) (k .1 f);
+          };
       end = λ z. (a .ended ∙ z, refl);
       number = omega (arith, a .number);
       took = λ y z. (a .number, rw left (sym (front-behind v)));
@@ -147,89 +194,95 @@ module _ (traced : Bool) {ws : List ℕ} (p : Place) (i o : List ℕ) (sound : S
           go (ready (inl d) f) = last (z (a .ended ∙ d))
           go (ready (inr d) f) = by-front (d .0) (d .1) (front v)
 
+keeps-from : {traced more : Bool} {ws ws′ : List ℕ} {ended before ended′ : Bool} {n m n′ : ℕ} {w v w′ u t u′ : List ℕ}
+    → ended ≡ before → n ≡ m → w ≡ v → u ≡ t → Keeps traced ws ended n w u more ws′ ended′ n′ w′ u′
+    → Keeps traced ws before m v t more ws′ ended′ n′ w′ u′
+keeps-from e n w u k = rw (e, n, w, u) at k
+
 -- after a write a turn is as ready as before, and its window is the same
-pub sent-ready : {ws : List ℕ} {p q : Place} {waiting : Bool} (i o : List ℕ) → TurnReady ws p i o
-    → Emptied p waiting q
-    → TurnReady ws q i o × (waitsOf (p .ended) (windowOf p i) ≡ waitsOf (q .ended) (windowOf q i))
+pub sent-ready : {ws : List ℕ} {p q : Place} {waiting : Bool} (i o : List ℕ) {o₁ : List ℕ} → TurnReady ws p i o
+    → Emptied p waiting o q o₁ → length o₁ ≡ length o
+    → TurnReady ws q i o₁ × (waitsOf (p .ended) (windowOf p i) ≡ waitsOf (q .ended) (windowOf q i))
 unfolding windowOf
-sent-ready {ws} {p} {q} i o r h = go (p .filled - q .filled) (h .place)
+sent-ready {ws} {p} {q} i o {o₁} r h lo = go (p .filled - q .filled) (h .place)
   where
     w : Within p
     w = r .within
 
     go : (sent : ℕ) → q ≡ sentFrom p sent
-        → TurnReady ws q i o × (waitsOf (p .ended) (windowOf p i) ≡ waitsOf (q .ended) (windowOf q i))
+        → TurnReady ws q i o₁ × (waitsOf (p .ended) (windowOf p i) ≡ waitsOf (q .ended) (windowOf q i))
     go sent e = rw e (
       record {
-        lent = r .lent;
+        lent = record { sound = r .lent .sound; input = r .lent .input; output = lo ∙ r .lent .output };
         within = record { unread = w .unread; read = w .read; unwritten = omega (arith, w .unwritten) };
         number = r .number;
       },
       refl,
     )
 
-pub left-few : {p q : Place} {waiting : Bool} → Emptied p waiting q → q .filled ≤ p .filled
-left-few {p} {q} h = let e = ap (λ (x : Place). x .filled) (h .place) in omega arith
-
-module _ (p q : Place) (o : List ℕ) (sent : ℕ) (in-place : Within p) (lo : length o ≡ bufferLength)
-    {waiting : Bool} (given : Sent (p .filled) waiting sent) (place : q ≡ sentFrom p sent) where
-  unsent : drop sent (unwrittenOf p o) ≡ unwrittenOf (sentFrom p sent) o
-  unfolding unwrittenOf
-  unsent = go (given .all)
-    where
-      go : (sent ≡ p .filled) ⊎ (sent ≡ 0) → drop sent (take (p .filled) o) ≡ take (p .filled - sent) o
-      go (inl e) =
-          let z : p .filled - p .filled ≡ 0 = omega arith in
-          let y : length (take (p .filled) o) ≤ p .filled = simp length-take (omega arith) in
-          rw (e, z) (drop-of-length-le (take (p .filled) o) y)
-      go (inr e) =
-          let z : p .filled - 0 ≡ p .filled = omega arith in
-          rw (e, z)
+module _ (p q : Place) (o o₁ : List ℕ) (in-place : Within p) (lo : length o ≡ bufferLength)
+    {waiting : Bool} (h : Emptied p waiting o q o₁) where
+  abbrev sent : ℕ
+  sent = p .filled - q .filled
 
   unwritten-length : length (unwrittenOf p o) ≡ p .filled
   unfolding unwrittenOf
   unwritten-length = length-take-le (p .filled) o (rw lo (in-place .unwritten))
 
+  same-ended : q .ended ≡ p .ended
+  same-ended = ap (λ (x : Place). x .ended) (h .place)
+
+  same-number : q .number ≡ p .number
+  same-number = ap (λ (x : Place). x .number) (h .place)
+
+  same-window : (i : List ℕ) → windowOf q i ≡ windowOf p i
+  unfolding windowOf
+  same-window i = rw (ap (λ (x : Place). x .at) (h .place), ap (λ (x : Place). x .end) (h .place))
+
+  -- where the program stands after the write
+  sent-stand : (ws i : List ℕ) → standAt ws q i o₁ ≡ sentAt sent (standAt ws p i o)
+  sent-stand ws i = same-stand same-ended same-number (same-window i) (h .unwritten)
+
   pub turns-on : (traced : Bool) {ws : List ℕ} (i : List ℕ) {i′ o′ ws′ : List ℕ} {r : Advanced}
       → waiting ≡ waitsOf (p .ended) (windowOf p i)
-      → roomFor (q .filled) waiting ≡ true → Advances traced ws q i o r ws′ i′ o′
-      → Turns traced ws p i o (record { more = r .more; failed = false; sent = sent; place = r .place }) ws′ i′ o′
-  unfolding windowOf unwrittenOf
-  turns-on traced i e room a = record {
+      → roomFor (q .filled) waiting ≡ true → Advances traced ws q i o₁ r ws′ i′ o′
+      → Turns traced ws p i o
+      (record { more = r .more; failed = false; unread = r .unread; sent = sent; place = r .place }) ws′ i′ o′
+  unfolding unwrittenOf
+  turns-on traced {ws} i e room a = record {
     within = a .within;
     sound = a .sound;
-    number = rw place at (a .keeps .number);
-    sent = omega (arith, unwritten-length, sent-few given);
-    unasked = λ z. given .unasked (rw e z);
-    keeps = λ z. rw unsent (rw place at (a .keeps));
-    shown = λ z t. unsent ∙ none t;
+    number = omega (arith, a .number, same-number);
+    sent = omega (arith, unwritten-length);
+    unasked = λ z. let n = h .unasked (rw e z) in omega arith;
+    keeps = λ y z. keeps-from same-ended same-number (same-window i) (h .unwritten) (a .keeps z);
+    shown = λ z t. sym (h .unwritten) ∙ none t;
     failed = λ z. absurd (true-false false z refl);
+    unread = λ z.
+        let w = ap (λ (s : Stand). waitsOf (s .ended) (s .window)) (sym (sent-stand ws i)) in
+        (refl, w ∙ a .unread z .0, a .unread z .1);
+    stays = ⊎-elim (λ z. absurd (true-false false z refl)) (λ z. a .unread z .2 ∙ sent-stand ws i);
   }
     where
-      none : waitsOf (p .ended) (take (p .end - p .at) (drop (p .at) i)) ≡ true → take (p .filled - sent) o ≡ []
-      none t = nothing-due o (p .filled - sent) (room-none (p .filled - sent) waiting (rw place at room) (e ∙ t))
+      none : waitsOf (p .ended) (windowOf p i) ≡ true → unwrittenOf q o₁ ≡ []
+      none t = nothing-due o₁ (q .filled) (room-none (q .filled) waiting room (e ∙ t))
 
   pub turns-failed : (traced : Bool) {ws : List ℕ} (i : List ℕ) → waiting ≡ waitsOf (p .ended) (windowOf p i)
-      → Sound ws → (roomFor (q .filled) waiting ≡ true → ⊥)
-      → Turns traced ws p i o (record { more = true; failed = true; sent = sent; place = q }) ws i o
-  turns-failed traced i e sound room = record {
-    within = rw place (record {
-      unread = in-place .unread;
-      read = in-place .read;
-      unwritten = omega (arith, in-place .unwritten);
-    });
+      → Sound ws → Within q → (roomFor (q .filled) waiting ≡ true → ⊥)
+      → Turns traced ws p i o
+      (record { more = true; failed = true; unread = false; sent = sent; place = q }) ws i o₁
+  turns-failed traced {ws} i e sound there room = record {
+    within = there;
     sound = sound;
-    number = rw place (omega arith);
-    sent = omega (arith, unwritten-length, sent-few given);
-    unasked = λ z. given .unasked (rw e z);
+    number = omega (arith, same-number);
+    sent = omega (arith, unwritten-length);
+    unasked = λ z. let n = h .unasked (rw e z) in omega arith;
     keeps = λ z. absurd (true-false true refl z);
     shown = λ z. absurd (true-false true refl z);
-    failed = λ z. (none (given .all), omega (arith, unwritten-length, sent-few given, some));
+    failed = λ z. omega (arith, unwritten-length, some, h .few);
+    unread = λ z. absurd (true-false false z refl);
+    stays = λ z. sent-stand ws i;
   }
     where
-      some : 0 < p .filled - sent
-      some = pos-of-ne-zero (λ e. room (rw place (room-nothing (p .filled - sent) waiting e)))
-
-      none : (sent ≡ p .filled) ⊎ (sent ≡ 0) → sent ≡ 0
-      none (inl e) = absurd (let s = some in omega arith)
-      none (inr e) = e
+      some : 0 < q .filled
+      some = pos-of-ne-zero (λ z. room (room-nothing (q .filled) waiting z))

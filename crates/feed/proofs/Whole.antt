@@ -1,21 +1,27 @@
 -- For the root of the crate: turns that each keep the text that is due make up the whole text.
-use mathlib.Core.Path.{_≡_, refl, sym, ap, _∙_}
+use mathlib.Core.Path.{_≡_, refl, sym, ap, _∙_, subst}
 use mathlib.Core.Bool.{Bool, true, false}
-use mathlib.Core.List.{List, [], _∷_, _++_, append-nil, append-assoc}
+use mathlib.Core.List.{List, [], _∷_, _++_, append-nil, append-assoc, flatten}
 use mathlib.Core.Logic.{_⊎_, inl, inr, ⊎-elim}
 use Prim.Native.Nat.{ℕ, _+_, _-_, _^_, _<_}
 use native.Mathlib.Omega.{arith}
-use lib.ListN.{take, drop, take-append-drop}
+use lib.ListN.{length, take, drop, take-append-drop, length-append}
 use Rattle.laws.proofs.Fin.{true-false}
+use Rattle.laws.specs.Lists.{Every, none}
 use Rattle.laws.specs.Upd.{ifb}
+use Rattle.laws.proofs.Lists.{every-append, flatten-append}
+use Rattle.records.specs.Layout.{checkOf}
 use Rattle.row.specs.Row.{stateOf}
 use Rattle.text.specs.Lines.{linesOf, textOf}
+use Rattle.text.proofs.LineLaws.{lines-nil}
+use Rattle.records.proofs.RunLaws.{ends}
 use Rattle.step.specs.Held.{Sound}
 use Rattle.feed.specs.Made.{StateMade}
-use Rattle.buffers.specs.Place.{windowOf, unwrittenOf}
-use Rattle.feed.specs.Turn.{Turns}
-use Rattle.feed.specs.Whole.{Stand, Run, begun, turned, Ran}
+use Rattle.buffers.specs.Place.{windowOf, unwrittenOf, waitsOf}
+use Rattle.feed.specs.Turn.{Stand, standAt, Takes, Turns}
+use Rattle.feed.specs.Whole.{Run, begun, turned, Reached, Broken, writtenBy, Ran, Answers}
 use Rattle.buffers.specs.declared.input.Place.{Place}
+use Rattle.buffers.proofs.Window.{waits-none}
 use Rattle.feed.specs.declared.turning.Turned.{Turned}
 
 -- what is due at a place, where f is still to come
@@ -24,6 +30,9 @@ due traced more b f = b .unwritten ++ ifb more (linesOf traced (stateOf (b .word
 
 regroup : (o t r p x : List ℕ) → o ++ ((t ++ r) ++ (p ++ x)) ≡ (o ++ t) ++ ((r ++ p) ++ x)
 regroup o t r p x = simp append-assoc
+
+regroup′ : (o t r p x : List ℕ) → (o ++ (t ++ r)) ++ (p ++ x) ≡ ((o ++ t) ++ (r ++ p)) ++ x
+regroup′ o t r p x = simp append-assoc
 
 -- whatever comes later, what was written and what is due are the text for the input
 run-text : {traced more : Bool} {n : ℕ} {ws input output : List ℕ} {b : Stand}
@@ -50,16 +59,95 @@ pub whole-text : {traced : Bool} {office n : ℕ} {ws input output : List ℕ} {
 whole-text {traced} {office} {ws} {input} {output} {b} m r f e =
     m .text traced (input ++ f) ∙ run-text r f e ∙ rw (append-nil (b .unwritten))
 
+-- what has been answered so far, whatever comes behind it
+record Sofar (traced : Bool) (ws input output : List ℕ) (b : Stand) : Type 0 where
+  parts : List (List ℕ)
+  whole : Every (λ p. checkOf p ≡ 0) parts
+  count : b .number ≡ length parts
+  read : input ≡ flatten parts ++ b .window
+  lines : (f : List ℕ) → linesOf traced (stateOf ws) 0 (flatten parts ++ f)
+      ≡ (output ++ b .unwritten) ++ linesOf traced (stateOf (b .words)) (b .number) f
+
+run-sofar : {traced more : Bool} {n : ℕ} {ws input output : List ℕ} {b : Stand} → Run traced ws n input output more b
+    → more ≡ true → Sofar traced ws input output b
+unfolding flatten
+run-sofar begun m = record { parts = []; whole = none; count = refl; read = refl; lines = λ f. refl }
+run-sofar {traced} {ws = ws} (turned {n} {input} {output} {a} sent {more} {b} r k) m =
+    go (run-sofar r refl) (k .takes m)
+  where
+    go : Sofar traced ws input output a
+        → Takes traced (a .words) (a .number) (a .window ++ k .got) (k .printed) (b .words) (b .number) (b .window)
+        → Sofar traced ws (input ++ k .got) (output ++ take sent (a .unwritten)) b
+    go s t = record {
+      parts = s .parts ++ t .parts;
+      whole = every-append (s .whole) (t .whole);
+      count = t .count ∙ omega (arith, s .count, length-append (s .parts) (t .parts));
+      read = ap (λ (l : List ℕ). l ++ k .got) (s .read) ∙ append-assoc (flatten (s .parts)) (a .window) (k .got)
+          ∙ ap (λ (l : List ℕ). flatten (s .parts) ++ l) (t .left)
+          ∙ sym (append-assoc (flatten (s .parts)) (flatten (t .parts)) (b .window))
+          ∙ ap (λ (l : List ℕ). l ++ b .window) (sym both);
+      lines = λ f. ap (λ (l : List ℕ). linesOf traced (stateOf ws) 0 (l ++ f)) both
+          ∙ ap (linesOf traced (stateOf ws) 0) (append-assoc (flatten (s .parts)) (flatten (t .parts)) f)
+          ∙ s .lines (flatten (t .parts) ++ f) ∙ ap (λ (l : List ℕ). (output ++ a .unwritten) ++ l) (t .lines f)
+          ∙ rw (k .buffer)
+          (ap (λ (u : List ℕ). (output ++ u) ++ (k .printed ++ after f)) (sym (take-append-drop sent (a .unwritten)))
+          ∙ regroup′ output (take sent (a .unwritten)) (drop sent (a .unwritten)) (k .printed) (after f));
+    }
+      where
+        both : flatten (s .parts ++ t .parts) ≡ flatten (s .parts) ++ flatten (t .parts)
+        both = flatten-append (s .parts) (t .parts)
+
+        after : List ℕ → List ℕ
+        after f = linesOf traced (stateOf (b .words)) (b .number) f
+
+-- where the program goes on, it has answered records that came whole, and nothing else
+pub going-text : {traced : Bool} {office n : ℕ} {ws input output : List ℕ} {b : Stand} → StateMade office true ws
+    → Run traced ws n input output true b → Answers traced office input output b
+going-text {traced} {office} {ws} {input} {output} {b} m r =
+    let s = run-sofar r refl in
+    record {
+      parts = s .parts;
+      whole = s .whole;
+      count = s .count;
+      read = s .read;
+      text = m .text traced (flatten (s .parts))
+          ∙ ap (linesOf traced (stateOf ws) 0) (sym (append-nil (flatten (s .parts)))) ∙ s .lines []
+          ∙ rw (lines-nil traced (stateOf (b .words)) (b .number) [] refl) (append-nil (output ++ b .unwritten));
+      rest = λ t. ends (b .window) (waits-none (b .ended) (b .window) t);
+    }
+
+-- so it is where a fault has ended the run; where a read failed, all is written
+pub fault-text : {traced unread : Bool} {office : ℕ} {ws : List ℕ} {b : Stand} → StateMade office true ws
+    → (k : Broken traced ws unread b)
+    → Answers traced office (k .input) (writtenBy k) b × (unread ≡ true → b .unwritten ≡ [])
+fault-text {b = b} m k =
+    let a = going-text m (k .run) in
+    let e = k .stands in (
+      record {
+        parts = a .parts;
+        whole = a .whole;
+        count = ap (λ (c : Stand). c .number) e ∙ a .count;
+        read = a .read ∙ ap (λ (c : Stand). flatten (a .parts) ++ c .window) (sym e);
+        text = a .text ∙ ap (λ (u : List ℕ). k .output ++ u) (sym (take-append-drop (k .sent) (k .place .unwritten)))
+            ∙ sym (append-assoc (k .output) (take (k .sent) (k .place .unwritten)) _)
+            ∙ ap (λ (c : Stand). writtenBy k ++ c .unwritten) (sym e);
+        rest = λ t. ends (b .window) (waits-none (b .ended) (b .window) t);
+      },
+      λ u. k .waited u .1,
+    )
+
 -- the loop begins, and a turn goes on
 pub ran-begun : (traced : Bool) {ws : List ℕ} (i o : List ℕ) → Sound ws
-    → Ran traced ws ws (record { ended = false; at = 0; end = 0; filled = 0; number = 0 }) i o true false (2 ^ 64 - 1)
+    → Ran traced ws ws (record { ended = false; at = 0; end = 0; filled = 0; number = 0 }) i o true false false
+    (2 ^ 64 - 1)
 unfolding windowOf unwrittenOf
 ran-begun traced i o sound = record {
   sound = sound;
   within = record { unread = omega arith; read = omega arith; unwritten = omega arith };
   number = omega arith;
-  reached = λ f. record { turns = 0; input = []; output = []; run = begun; counted = λ m. omega arith };
-  going = λ l. (refl, refl);
+  reached = λ f u. record { turns = 0; input = []; output = []; run = begun; counted = λ m. omega arith };
+  broken = ⊎-elim (λ z. absurd (true-false false z refl)) (λ z. absurd (true-false false z refl));
+  going = λ l. (refl, refl, refl);
 }
 
 -- the turns left after one
@@ -74,29 +162,55 @@ pub left-less : (more failed : Bool) (left left′ : ℕ) → 0 < left → left�
 left-less more failed left left′ h e =
     ⊎-elim (λ z. omega (arith, z .2)) (λ z. omega (arith, z .1)) (left-cases more failed left left′ e)
 
-pub ran-turned : {traced more failed : Bool} {ws₀ ws ws′ : List ℕ} {p : Place} {i o i′ o′ : List ℕ}
+pub ran-turned : {traced more failed unread : Bool} {ws₀ ws ws′ : List ℕ} {p : Place} {i o i′ o′ : List ℕ}
     {left left′ : ℕ} {r : Turned}
-    → Ran traced ws₀ ws p i o more failed left → 0 < left → Turns traced ws p i o r ws′ i′ o′
+    → Ran traced ws₀ ws p i o more failed unread left → 0 < left → Turns traced ws p i o r ws′ i′ o′
     → left′ ≡ ifb (r .more) (ifb (r .failed) 0 (left - 1)) 0
-    → Ran traced ws₀ ws′ (r .place) i′ o′ (r .more) (r .failed) left′
-ran-turned {traced} {more} {failed} {ws₀} {ws} {ws′} {p} {i} {o} {i′} {o′} {left} {left′} {r} a h t e = record {
+    → Ran traced ws₀ ws′ (r .place) i′ o′ (r .more) (r .failed) (r .unread) left′
+ran-turned {traced} {more} {failed} {unread} {ws₀} {ws} {p = p} {i} {o} {left = left} {left′} {r} a h t e = record {
   sound = t .sound;
   within = t .within;
   number = ⊎-elim (λ z. omega (arith, z .2, t .number, a .number))
       (λ z. omega (arith, z .1, t .number, a .number)) cases;
-  reached = λ f.
-      let g = a .going h in
-      let b = a .reached (g .1) in
-      record {
-        turns = b .turns + 1;
-        input = b .input ++ t .keeps f .got;
-        output = b .output ++ take (r .sent) (unwrittenOf p o);
-        run = turned (r .sent) (rw (g .0) at (b .run)) (t .keeps f);
-        counted = λ m. ⊎-elim (λ z. omega (arith, z .2, b .counted (g .0))) (λ z. absurd (z .0 (m, f))) cases;
-      };
-  going = λ l. ⊎-elim (λ z. (z .0, z .1)) (λ z. absurd (omega (arith, z .1))) cases;
+  reached = λ f u. record {
+    turns = b .turns + 1;
+    input = b .input ++ t .keeps f u .got;
+    output = b .output ++ take (r .sent) (unwrittenOf p o);
+    run = turned (r .sent) went (t .keeps f u);
+    counted = λ m. ⊎-elim (λ z. omega (arith, z .2, b .counted (g .0))) (λ z. absurd (z .0 (m, f))) cases;
+  };
+  broken = λ z. record {
+    turns = b .turns;
+    input = b .input;
+    output = b .output;
+    place = standAt ws p i o;
+    sent = r .sent;
+    run = went;
+    stands = t .stays z;
+    waited = λ u.
+        let w = t .unread u in
+        let s = t .stays z in (
+          ap (λ (c : Stand). waitsOf (c .ended) (c .window)) s ∙ w .1,
+          ap (λ (c : Stand). c .unwritten) s ∙ t .shown (w .0) (w .1),
+        );
+  };
+  going = λ l. ⊎-elim (λ z. (z .0, z .1, unbroken (r .unread) refl (z .0))) (λ z. absurd (omega (arith, z .1))) cases;
 }
   where
+    g : (more ≡ true) × (failed ≡ false) × (unread ≡ false)
+    g = a .going h
+
+    b : Reached traced ws₀ more left (standAt ws p i o)
+    b = a .reached (g .1) (g .2)
+
+    went : Run traced ws₀ (b .turns) (b .input) (b .output) true (standAt ws p i o)
+    went = subst (λ (m : Bool). Run traced ws₀ (b .turns) (b .input) (b .output) m (standAt ws p i o)) (g .0) (b .run)
+
+    -- the program goes on, so no read failed
+    unbroken : (u : Bool) → r .unread ≡ u → r .more ≡ true → u ≡ false
+    unbroken true y m = absurd (true-false _ m (t .unread y .2))
+    unbroken false y m = refl
+
     cases : ((r .more ≡ true) × (r .failed ≡ false) × (left′ ≡ left - 1))
         ⊎ (((r .more ≡ true) × (r .failed ≡ false) → ⊥) × (left′ ≡ 0))
     cases = left-cases (r .more) (r .failed) left left′ e

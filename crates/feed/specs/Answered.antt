@@ -1,6 +1,6 @@
 -- A record answered.
 use mathlib.Core.Path.{_≡_}
-use mathlib.Core.Bool.{Bool}
+use mathlib.Core.Bool.{Bool, false}
 use mathlib.Core.List.{List, _++_}
 use lib.ListN.{length}
 use Prim.Native.Nat.{ℕ, _+_, _≤_}
@@ -19,6 +19,7 @@ pub record Answered (traced : Bool) (ws : List ℕ) (p : Place) (b o : List ℕ)
   pub sound : Sound ws′
   pub state : stateOf ws′ ≡ stepOf (stateOf ws) b fullRoom .state
   pub more : r .more ≡ goesOn (stepOf (stateOf ws) b fullRoom .refusal)
+  pub unread : r .unread ≡ false
   pub ended : r .place .ended ≡ p .ended
   pub at : r .place .at ≡ p .at + length b
   pub end : r .place .end ≡ p .end

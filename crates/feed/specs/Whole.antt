@@ -1,21 +1,18 @@
 -- A run of the program: turn after turn, from a place with nothing read and nothing unwritten.
 use mathlib.Core.Path.{_≡_}
 use mathlib.Core.Bool.{Bool, true, false}
-use mathlib.Core.List.{List, [], _++_}
+use mathlib.Core.List.{List, [], _∷_, _++_, flatten}
+use mathlib.Core.Logic.{_⊎_}
 use Prim.Native.Nat.{ℕ, _+_, _^_, _<_}
-use lib.ListN.{take, drop}
+use lib.ListN.{length, take, drop}
+use Rattle.laws.specs.Lists.{Every}
+use Rattle.records.specs.Layout.{checkOf}
+use Rattle.records.specs.Run.{Ends}
 use Rattle.step.specs.Held.{Sound}
-use Rattle.buffers.specs.Place.{Within, windowOf, unwrittenOf}
-use Rattle.feed.specs.Turn.{Keeps}
+use Rattle.text.specs.Lines.{textOf}
+use Rattle.buffers.specs.Place.{Within, waitsOf}
+use Rattle.feed.specs.Turn.{Stand, standAt, sentAt, Keeps}
 use Rattle.buffers.specs.declared.input.Place.{Place}
-
--- where a run stands: the row, whether the input has ended, the records answered, the bytes unanswered and unwritten
-pub record Stand : Type 0 where
-  pub words : List ℕ
-  pub ended : Bool
-  pub number : ℕ
-  pub window : List ℕ
-  pub unwritten : List ℕ
 
 abbrev pub start : List ℕ → Stand
 start ws = record { words = ws; ended = false; number = 0; window = []; unwritten = [] }
@@ -30,10 +27,6 @@ pub data Run (traced : Bool) (ws : List ℕ) : ℕ → List ℕ → List ℕ →
       (b .words) (b .ended) (b .number) (b .window) (b .unwritten))
       → Run traced ws (n + 1) (input ++ k .got) (output ++ take sent (a .unwritten)) more b
 
-abbrev pub standAt : List ℕ → Place → List ℕ → List ℕ → Stand
-standAt ws p i o =
-    record { words = ws; ended = p .ended; number = p .number; window = windowOf p i; unwritten = unwrittenOf p o }
-
 -- a run of turns that stands at b, with so many left of 2^64 - 1 where the program goes on
 pub record Reached (traced : Bool) (ws₀ : List ℕ) (more : Bool) (left : ℕ) (b : Stand) : Type 0 where
   pub turns : ℕ
@@ -42,11 +35,40 @@ pub record Reached (traced : Bool) (ws₀ : List ℕ) (more : Bool) (left : ℕ)
   pub run : Run traced ws₀ turns input output more b
   pub counted : more ≡ true → turns + left + 1 ≡ 2 ^ 64
 
--- where the loop stands: after a run of turns, unless a write failed; it has turns left only while the program goes on
-pub record Ran (traced : Bool) (ws₀ ws : List ℕ) (p : Place) (i o : List ℕ) (more failed : Bool)
+-- a run that a fault has ended: turns up to a place, then so many of the bytes unwritten there. Where it was a read
+-- that failed, more of the input was waited for, and nothing is left unwritten.
+pub record Broken (traced : Bool) (ws₀ : List ℕ) (unread : Bool) (b : Stand) : Type 0 where
+  pub turns : ℕ
+  pub input : List ℕ
+  pub output : List ℕ
+  pub place : Stand
+  pub sent : ℕ
+  pub run : Run traced ws₀ turns input output true place
+  pub stands : b ≡ sentAt sent place
+  pub waited : unread ≡ true → (waitsOf (b .ended) (b .window) ≡ true) × (b .unwritten ≡ [])
+
+-- all that it wrote
+abbrev pub writtenBy : {traced unread : Bool} {ws₀ : List ℕ} {b : Stand} → Broken traced ws₀ unread b → List ℕ
+writtenBy k = k .output ++ take (k .sent) (k .place .unwritten)
+
+-- where the loop stands: after a run of turns, which a fault may have ended; it has turns left only while the program
+-- goes on
+pub record Ran (traced : Bool) (ws₀ ws : List ℕ) (p : Place) (i o : List ℕ) (more failed unread : Bool)
     (left : ℕ) : Type 0 where
   pub sound : Sound ws
   pub within : Within p
   pub number : p .number + left < 2 ^ 64
-  pub reached : failed ≡ false → Reached traced ws₀ more left (standAt ws p i o)
-  pub going : 0 < left → (more ≡ true) × (failed ≡ false)
+  pub reached : failed ≡ false → unread ≡ false → Reached traced ws₀ more left (standAt ws p i o)
+  pub broken : (failed ≡ true) ⊎ (unread ≡ true) → Broken traced ws₀ unread (standAt ws p i o)
+  pub going : 0 < left → (more ≡ true) × (failed ≡ false) × (unread ≡ false)
+
+-- What a run that goes on has answered: records that came whole, each with its line. With the bytes unanswered they
+-- are what was read; what was written and what is unwritten are the text for them, with no line for the rest. Where
+-- the program waits, no whole record is among the rest.
+pub record Answers (traced : Bool) (office : ℕ) (input output : List ℕ) (b : Stand) : Type 0 where
+  pub parts : List (List ℕ)
+  pub whole : Every (λ p. checkOf p ≡ 0) parts
+  pub count : b .number ≡ length parts
+  pub read : input ≡ flatten parts ++ b .window
+  pub text : textOf traced (office ∷ flatten parts) ≡ output ++ b .unwritten
+  pub rest : waitsOf (b .ended) (b .window) ≡ true → Ends (b .window)

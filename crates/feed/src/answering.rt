@@ -12,9 +12,10 @@ ghost use Rattle.buffers.specs.Place.{windowOf};
 ghost use Rattle.feed.specs.TurnReady.{TurnReady};
 ghost use Rattle.feed.specs.Answered.{Answered};
 
-// Whether the program goes on, and where it then stands.
+// Whether the program goes on, whether a read failed, and where it then stands.
 pub struct Advanced {
     pub more: bool,
+    pub unread: bool,
     pub place: Place,
 }
 
@@ -37,6 +38,7 @@ pub fn answer(
     let place = told(p, record.len(), a, view, &out, output, traced);
     Advanced {
         more: goes_on(a.refusal),
+        unread: false,
         place,
     }
 }

@@ -1,5 +1,6 @@
 // The program: the records of standard input through the step, a line on standard output for each.
 use buffers::input::Place;
+use buffers::input::read_some;
 use buffers::output::due;
 use buffers::output::flush;
 use turning::turn;
@@ -23,6 +24,7 @@ mod turning;
 struct Ended {
     more: bool,
     failed: bool,
+    unread: bool,
     place: Place,
 }
 
@@ -38,11 +40,11 @@ fn turns_left(more: bool, failed: bool, turns: u64) -> u64
     }
 }
 
-// Turn after turn, until the input has ended, a record is refused by 4 or 5, or a write fails.
+// Turn after turn, until the input has ended, a record is refused by 4 or 5, or a read or a write fails.
 fn turns(state: &mut [u32], input: &mut [u8], output: &mut [u8], traced: bool) -> Ended
     requires { ⌜ Lent (now state) (now input) (now output) ⌝ }
     ensures { λ r. ⌜ Ran traced (now (state .entry)) (now (state .exit)) (r .place) (now (input .exit))
-        (now (output .exit)) (r .more) (r .failed) 0 ⌝ }
+        (now (output .exit)) (r .more) (r .failed) (r .unread) 0 ⌝ }
 {
     let mut place = Place {
         ended: false,
@@ -53,6 +55,7 @@ fn turns(state: &mut [u32], input: &mut [u8], output: &mut [u8], traced: bool) -
     };
     let mut more = true;
     let mut failed = false;
+    let mut unread = false;
     let mut left = u64::MAX;
     while left > 0 {
         let t = turn(state, place, input, output, traced);
@@ -60,26 +63,45 @@ fn turns(state: &mut [u32], input: &mut [u8], output: &mut [u8], traced: bool) -
         place = next;
         more = t.more;
         failed = t.failed;
+        unread = t.unread;
         left = turns_left(more, failed, left);
     }
     Ended {
         more,
         failed,
+        unread,
         place,
     }
 }
 
 // One plain sentence where the output cannot be written; the program then ends.
-fn complain() {
-    io::write_all(2, b"The output cannot be written.\n");
+fn tell_unwritten() {
+    flush(2, b"The output cannot be written.\n");
 }
 
-// What is still unwritten is written, unless a write has failed.
-fn finish(output: &[u8], filled: usize, failed: bool)
+// One plain sentence where the input cannot be read; the program then ends.
+fn tell_unread() {
+    flush(2, b"The input cannot be read.\n");
+}
+
+// One sentence for whoever starts the program with an argument.
+fn tell_input() {
+    flush(
+        2,
+        b"No argument is read; standard input is one byte, the office, then reports and proposals end to end.\n",
+    );
+}
+
+// What is still unwritten is written, unless a write has failed; where a read has failed, nothing is unwritten.
+fn finish(output: &[u8], filled: usize, failed: bool, unread: bool)
     requires { ⌜ filled ≤ length (now output) ⌝ }
 {
-    if failed || flush(due(output, filled)) < filled {
-        complain();
+    if unread {
+        tell_unread();
+        return;
+    }
+    if failed || flush(1, due(output, filled)) < filled {
+        tell_unwritten();
     }
 }
 
@@ -88,7 +110,7 @@ fn serve(state: &mut [u32], input: &mut [u8], output: &mut [u8], traced: bool)
 {
     let e = turns(state, input, output, traced);
     let place = e.place;
-    finish(output, place.filled, e.failed);
+    finish(output, place.filled, e.failed, e.unread);
 }
 
 // The line where no office can be served.
@@ -98,13 +120,19 @@ fn no_office() -> [u8; 8]
     *b"0 1 0 0\n"
 }
 
-// The first byte; 16, which is no office, where there is none.
-fn office() -> u8 {
+// The first byte, unless the input cannot be read; the office is 16, which is none, where the input has ended.
+struct First {
+    unread: bool,
+    office: u8,
+}
+
+fn first_byte() -> First {
     let mut byte = [0u8; 1];
-    if io::read_full(0, &mut byte) == 1 {
-        byte[0]
-    } else {
-        16
+    let read = read_some(&mut byte);
+    let office = if read.ended { 16 } else { byte[0] };
+    First {
+        unread: read.failed,
+        office,
     }
 }
 
@@ -116,16 +144,30 @@ fn make_state(office: u8, state: &mut [u32]) -> bool
     step::fresh(office, state) == 0
 }
 
-// The program; `traced` has the bytes written behind each line.
-pub fn run(traced: bool) {
+// The office served, or the one line where there is none.
+fn open(office: u8, traced: bool) {
     let mut state = [0u32; step::WORDS];
-    if !make_state(office(), &mut state) {
-        if !io::write_all(1, &no_office()) {
-            complain();
+    if !make_state(office, &mut state) {
+        if flush(1, &no_office()) < 8 {
+            tell_unwritten();
         }
         return;
     }
     let mut input = io::large_buffer();
     let mut output = io::large_buffer();
     serve(&mut state, &mut input, &mut output, traced);
+}
+
+// The program; `traced` has the bytes written behind each line. The first argument is its own name.
+pub fn run(traced: bool) {
+    if os::arg_count() > 1 {
+        tell_input();
+        return;
+    }
+    let first = first_byte();
+    if first.unread {
+        tell_unread();
+        return;
+    }
+    open(first.office, traced);
 }

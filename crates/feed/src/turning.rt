@@ -13,10 +13,12 @@ ghost use Rattle.buffers.specs.Room.{roomFor};
 ghost use Rattle.feed.specs.TurnReady.{TurnReady};
 ghost use Rattle.feed.specs.Turn.{Advances, Turns};
 
-// `sent` of the unwritten bytes were written; `failed` says that the others could not be.
+// `sent` of the unwritten bytes were written; `failed` says that the others could not be, `unread` that the input
+// could not be read.
 pub struct Turned {
     pub more: bool,
     pub failed: bool,
+    pub unread: bool,
     pub sent: usize,
     pub place: Place,
 }
@@ -36,14 +38,18 @@ fn advance(
         (now (state .exit)) (now (input .exit)) (now (output .exit)) ⌝ }
 {
     if waiting {
+        let grown = refill(p, input);
+        let place = grown.place;
         return Advanced {
-            more: true,
-            place: refill(p, input),
+            more: !grown.unread,
+            unread: grown.unread,
+            place,
         };
     }
     if p.at == p.end {
         return Advanced {
             more: false,
+            unread: false,
             place: p,
         };
     }
@@ -70,6 +76,7 @@ pub fn turn(
         Turned {
             more: advanced.more,
             failed: false,
+            unread: advanced.unread,
             sent,
             place: next,
         }
@@ -77,6 +84,7 @@ pub fn turn(
         Turned {
             more: true,
             failed: true,
+            unread: false,
             sent,
             place: q,
         }

@@ -232,11 +232,11 @@ sum-upd (suc n) f i v h = go (ℕ-discrete i n) (sum-upd n f i v)
         omega arith
 
 -- two sums that differ in one term
-pub sum-one : (n : ℕ) (f g : ℕ → ℕ) (i : ℕ) → i < n → ((k : ℕ) → (k ≡ i → ⊥) → f k ≡ g k)
+pub sum-one : (n : ℕ) (f g : ℕ → ℕ) (i : ℕ) → i < n → ((k : ℕ) → k < n → (k ≡ i → ⊥) → f k ≡ g k)
     → sum n f + g i ≡ sum n g + f i
 sum-one n f g i h e =
     let a : sum n f ≡ sum n (upd g i (f i)) =
-    sum-ext n f (upd g i (f i)) (λ k lt. upd-cases (λ (m v : ℕ). f m ≡ v) g i (f i) k refl (e k)) in
+    sum-ext n f (upd g i (f i)) (λ k lt. upd-cases (λ (m v : ℕ). f m ≡ v) g i (f i) k refl (e k lt)) in
     let b = sum-upd n g i (f i) h in
     omega arith
 
@@ -267,6 +267,11 @@ any-count (suc n) t = go (t n) (any-count n t)
     go true e = sym (lt-ltb 0 (1 + sum n (λ k. ifb (t k) 1 0)) (omega arith))
     go false e = let z : 0 + sum n (λ k. ifb (t k) 1 0) ≡ sum n (λ k. ifb (t k) 1 0) = omega arith in rw z e
 
+pub count-le : (n : ℕ) (t : ℕ → Bool) → sum n (λ k. ifb (t k) 1 0) ≤ n
+unfolding sum
+count-le zero t = omega arith
+count-le (suc n) t = let a = count-le n t in let b = if-le (t n) 1 0 1 (omega arith) (omega arith) in omega arith
+
 -- without one that passes, the count is one less
 pub count-without : (n : ℕ) (t : ℕ → Bool) (i : ℕ) → i < n → t i ≡ true
     → sum n (λ k. ifb (t k && not (eqb k i)) 1 0) + 1 ≡ sum n (λ k. ifb (t k) 1 0)
@@ -276,8 +281,8 @@ count-without n t i h e =
     let b : ifb {A = ℕ} (t i && not (eqb i i)) 1 0 ≡ 0 = rw (e, eq-eqb i i refl) in
     omega arith
   where
-    other : (k : ℕ) → (k ≡ i → ⊥) → ifb {A = ℕ} (t k && not (eqb k i)) 1 0 ≡ ifb (t k) 1 0
-    other k q = rw (ne-eqb k i q) (ap (λ (b : Bool). ifb {A = ℕ} b 1 0) (and-true (t k)))
+    other : (k : ℕ) → k < n → (k ≡ i → ⊥) → ifb {A = ℕ} (t k && not (eqb k i)) 1 0 ≡ ifb (t k) 1 0
+    other k lt q = rw (ne-eqb k i q) (ap (λ (b : Bool). ifb {A = ℕ} b 1 0) (and-true (t k)))
 
 pub sum-mono : (n : ℕ) (f g : ℕ → ℕ) → ((k : ℕ) → k < n → f k ≤ g k) → sum n f ≤ sum n g
 unfolding sum

@@ -1,8 +1,8 @@
 -- Runs of a step over a list, and what holds of each entry.
-use mathlib.Core.Path.{_≡_, refl}
+use mathlib.Core.Path.{_≡_, refl, sym}
 use mathlib.Core.Logic.{_⊎_, inl, inr}
 use mathlib.Core.List.{List, [], _∷_, _++_, map, List·Memᴰ, List·Memᴰ·head, List·Memᴰ·tail, List·Memᴰ·not-nil}
-use mathlib.Core.List.{List·Memᴰ·cases-cons}
+use mathlib.Core.List.{List·Memᴰ·cases-cons, flatten, append-assoc}
 use Prim.Native.Nat.{ℕ, zero, suc}
 use lib.ListN.{take}
 use Rattle.laws.specs.Lists.{runs, Every, none, more}
@@ -24,6 +24,12 @@ module _ {W E : Type 0} (step : W → E → W) where
   unfolding runs
   runs-keep P h w [] p = p
   runs-keep P h w (e ∷ es) p = runs-keep P h (step w e) es (h w e p)
+
+-- the entries of two lists of lists, end to end
+pub flatten-append : {A : Type 0} (a b : List (List A)) → flatten (a ++ b) ≡ flatten a ++ flatten b
+unfolding flatten
+flatten-append [] b = refl
+flatten-append (x ∷ a) b = rw (flatten-append a b) (sym (append-assoc x (flatten a) (flatten b)))
 
 module _ {A : Type 0} {R : A → Type 0} where
   pub every-append : {a b : List A} → Every R a → Every R b → Every R (a ++ b)

@@ -6,8 +6,11 @@ use Prim.Native.Nat.{ℕ, zero, suc, _+_, _≤_, _<_, max}
 use native.Mathlib.Numerals.{add-one}
 use native.Mathlib.Omega.{arith}
 use lib.ListN.{length, getD, set, length-set}
-use Rattle.laws.specs.Fin.{allb, anyb, largest}
-use Rattle.laws.proofs.Fin.{allb-out, true-false}
+use mir.Syntax.{w32}
+use mir.Val.{boolByte, Fits}
+use Rattle.laws.specs.Fin.{allb, anyb, largest, sum}
+use Rattle.laws.specs.Upd.{ifb}
+use Rattle.laws.proofs.Fin.{allb-out, true-false, if-le, count-le}
 use Rattle.laws.specs.Tab.{tab}
 use Rattle.laws.proofs.Tab.{filled, fill-step}
 
@@ -54,6 +57,28 @@ any-none p = refl
 pub any-one : (n : ℕ) (p : ℕ → Bool) (b : Bool) → b ≡ anyb n p → p n || b ≡ anyb (n + 1) p
 unfolding anyb
 any-one n p b e = rw (add-one n, e)
+
+-- a test as a number, as the code makes it: test as u32
+pub flag : (b : Bool) → boolByte b ≡ ifb b 1 0
+flag true = refl
+flag false = refl
+
+-- a loop that counts the places at which a test holds
+pub count-none : (p : ℕ → Bool) → 0 ≡ sum 0 (λ k. ifb (p k) 1 0)
+unfolding sum
+count-none p = refl
+
+pub count-one : (n : ℕ) (p : ℕ → Bool) (c : ℕ) → c ≡ sum n (λ k. ifb (p k) 1 0)
+    → c + boolByte (p n) ≡ sum (n + 1) (λ k. ifb (p k) 1 0)
+unfolding sum
+count-one n p c e = rw (add-one n, e, flag (p n)) (omega arith)
+
+pub count-fits : (n : ℕ) (p : ℕ → Bool) (c : ℕ) → c ≡ sum n (λ k. ifb (p k) 1 0) → n < 16 → (b : Bool)
+    → Fits w32 (c + boolByte b)
+count-fits n p c e h b =
+    let l = count-le n p in
+    let f : boolByte b ≤ 1 = rw (flag b) (if-le b 1 0 1 (omega arith) (omega arith)) in
+    omega arith
 
 pub all-fails : (n : ℕ) (p : ℕ → Bool) (k : ℕ) → k < n → p k ≡ false → allb n p ≡ false
 all-fails n p k h e = go (allb n p) refl

@@ -2,11 +2,13 @@
 -- trailing zeros.
 use mathlib.Core.Path.{_≡_, refl, sym, ap, _∙_}
 use mathlib.Core.Bool.{Bool, true, false, not, true≢false}
-use Prim.Native.Nat.{ℕ, zero, suc, _/_, _%_, _≤_, _<_, min}
+use Prim.Native.Nat.{ℕ, zero, suc, _-_, _/_, _%_, _^_, _≤_, _<_, min}
 use native.Mathlib.Omega.{arith}
 use native.Mathlib.Decide.{decLt, ℕ-discrete}
+use native.Mathlib.Nat.{mod-eq-of-lt, zero-min}
 use borrow.Author.Tests.{eq-eqb, ne-eqb}
 use lib.Dec.{eqb}
+use lib.Bits.{bitAnd, and-step, and-self, and-mask}
 use lib.Count.{trailingZeros, under}
 use Rattle.laws.specs.Bit.{bit}
 use Rattle.laws.specs.Fin.{allb}
@@ -111,3 +113,34 @@ trailing-lowest (suc n) x = go (x % 2) (omega arith) (trailing-lowest n (x / 2))
     go zero l e = ap suc e
     go (suc zero) l e = refl
     go (suc (suc r)) l e = absurd (omega arith)
+
+half-mask : (n t : ℕ) → (2 ^ suc n - 1 - 2 ^ suc t) / 2 ≡ 2 ^ n - 1 - 2 ^ t
+half-mask n t = omega arith
+
+-- x & (x - 1) is x without its lowest digit that is set
+pub and-less-one : (n x : ℕ) → x < 2 ^ n → (x ≡ 0 → ⊥)
+    → bitAnd x (x - 1) ≡ bitAnd x (2 ^ n - 1 - 2 ^ trailingZeros n x)
+unfolding trailingZeros
+and-less-one zero x h some = absurd (omega arith)
+and-less-one (suc n) x h some = go (x % 2) refl (and-less-one n (x / 2) (omega arith))
+  where
+    t : ℕ
+    t = trailingZeros n (x / 2)
+
+    halves : (a b : ℕ) → bitAnd (x / 2) ((x - 1) / 2) ≡ bitAnd (x / 2) b → a / 2 ≡ b → min (x % 2) (a % 2) ≡ 0
+        → bitAnd x (x - 1) ≡ bitAnd x a
+    halves a b e f g =
+        let p = and-step x (x - 1) in
+        let q = and-step x a in
+        let i : bitAnd (x / 2) ((x - 1) / 2) ≡ bitAnd (x / 2) (a / 2) = e ∙ ap (bitAnd (x / 2)) (sym f) in
+        omega arith
+
+    go : (r : ℕ) → x % 2 ≡ r → ((x / 2 ≡ 0 → ⊥) → bitAnd (x / 2) (x / 2 - 1) ≡ bitAnd (x / 2) (2 ^ n - 1 - 2 ^ t))
+        → bitAnd x (x - 1) ≡ bitAnd x (2 ^ suc n - 1 - 2 ^ under r t)
+    go zero e ih =
+        let z : (x - 1) / 2 ≡ x / 2 - 1 = omega arith in
+        halves _ (2 ^ n - 1 - 2 ^ t) (rw z (ih (λ q. some (omega arith)))) (half-mask n t) (rw (e, zero-min))
+    go (suc r) e ih =
+        let z : (x - 1) / 2 ≡ x / 2 = omega arith in
+        let m : x / 2 % 2 ^ n ≡ x / 2 = mod-eq-of-lt (omega arith) in
+        halves _ (2 ^ n - 1) (rw z (and-self (x / 2) ∙ sym (and-mask (x / 2) n ∙ m))) (omega arith) (omega arith)

@@ -1,3 +1,4 @@
--- The laws, in the order of the modules that they serve: slow_look, slow_test.
+-- The laws, in the order of the modules that they serve: slow_call, slow_look, slow_test.
+mod Calls
 mod Looks
 mod SlowCases

@@ -7,7 +7,10 @@ mod own_proposals;
 // Steps 4 and 5 of a report.
 pub mod fast;
 
-// What the slow test looks at.
+// Whether slow agreement is called for.
+mod slow_call;
+
+// The number of a slow proposal.
 mod slow_look;
 
 // The slow test.

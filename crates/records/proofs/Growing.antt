@@ -106,6 +106,18 @@ other-check w z = go (front w)
     go (whole p l e s) = absurd (omega arith)
     go (other l n e) = rw (eq-eqb (formOf w .length) 0 n)
 
+-- and one that ends with 5 with check 5
+pub short-check : (w : List ℕ) → runCheck w ≡ 5 → checkOf w ≡ 5
+unfolding checkOf checkFor
+short-check w z = go (front w)
+  where
+    go : Front w → checkOf w ≡ 5
+    go (nothing l e) = absurd (omega arith)
+    go (other l n e) = absurd (omega arith)
+    go (whole p l e s) = absurd (omega arith)
+    go (short l n e) =
+        rw (ne-eqb (formOf w .length) 0 (λ d. omega arith), ne-eqb (length w) (formOf w .length) (λ d. omega arith))
+
 -- it ends with 0, 4 or 5; with 5 fewer bytes than a proposal has are there
 pub short-ends : (w : List ℕ) → runCheck w ≡ 5 → length w < proposalLength
 short-ends w z = go (front w)

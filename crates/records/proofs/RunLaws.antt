@@ -6,8 +6,8 @@ use mathlib.Core.Logic.{_⊎_, inl, inr, ⊎-elim}
 use Prim.Native.Nat.{ℕ, zero, suc, _≤_, _<_}
 use native.Mathlib.Omega.{arith}
 use native.Mathlib.Nat.{pos-of-ne-zero}
-use lib.ListN.{length, take, take-append-drop, length-drop}
-use lib.Seq.{getD-take, length-take-le}
+use lib.ListN.{length, take, drop, take-append-drop, length-drop, drop-of-length-le}
+use lib.Seq.{getD-take, length-take-le, take-all}
 use lib.Dec.{eqb, ltb, leb}
 use borrow.Author.Tests.{eqb-true, eqb-false, ltb-true, ltb-false, ne-eqb, lt-ltb, le-leb, lt-leb}
 use Rattle.laws.proofs.Fin.{if-same}
@@ -127,7 +127,7 @@ mark-take n b h l =
     ∙ rw (getD-take n b 0 0 (omega arith), getD-take n b 1 0 (omega arith)) (sym (long-mark b (omega arith)))
 
 -- what is handed back as a record passes checks 4 and 5 by itself
-first-passes : (b : List ℕ) → 0 < runSize b → checkOf (runFirst b) ≡ 0
+pub first-passes : (b : List ℕ) → 0 < runSize b → checkOf (runFirst b) ≡ 0
 unfolding runFirst checkOf formOf
 first-passes b h = go (front b)
   where
@@ -140,6 +140,70 @@ first-passes b h = go (front b)
         let m = mark-take n b (let q = form-least b p in omega arith) (size-le b) in
         let f : formOf (take n b) .length ≡ n = ap (λ (v : ℕ). formFor v .length) m ∙ sym s in
         ap (λ (k : ℕ). checkFor k (take n b)) f ∙ check-passes n (take n b) (length-take-le n b (size-le b)) h
+
+-- where a record is handed back the reading does not end; where none is and it does not end, nothing remains
+pub first-whole : (b : List ℕ) → 0 < length (runFirst b) → runCheck b ≡ 0
+unfolding runFirst
+first-whole b h = go (front b)
+  where
+    l : length (take (runSize b) b) ≡ runSize b
+    l = length-take-le (runSize b) b (size-le b)
+
+    go : Front b → runCheck b ≡ 0
+    go (nothing m e) = e
+    go (other m n e) = absurd (omega (arith, l, refused-size b (omega arith)))
+    go (short m n e) = absurd (omega (arith, l, refused-size b (omega arith)))
+    go (whole p m e s) = e
+
+pub first-nothing : (b : List ℕ) → length (runFirst b) ≡ 0 → runCheck b ≡ 0 → runFirst b ≡ b
+unfolding runFirst
+first-nothing b h z = go (front b)
+  where
+    l : length (take (runSize b) b) ≡ runSize b
+    l = length-take-le (runSize b) b (size-le b)
+
+    go : Front b → take (runSize b) b ≡ b
+    go (nothing m e) = take-all (runSize b) b (omega arith)
+    go (other m n e) = absurd (omega arith)
+    go (short m n e) = absurd (omega arith)
+    go (whole p m e s) = absurd (omega (arith, l))
+
+pub first-some : (b : List ℕ) → 0 < runSize b → 0 < length (runFirst b)
+unfolding runFirst
+first-some b h = let l = length-take-le (runSize b) b (size-le b) in omega arith
+
+-- and by itself it is a run of one record
+pub first-alone : (b : List ℕ) → 0 < runSize b → (runCheck (runFirst b) ≡ 0) × (runFirst (runFirst b) ≡ runFirst b)
+    × (runRest (runFirst b) ≡ [])
+unfolding runFirst runRest formOf
+first-alone b h = go (front b) (front (take n b))
+  where
+    n : ℕ
+    n = runSize b
+
+    l : length (take n b) ≡ n
+    l = length-take-le n b (size-le b)
+
+    go : Front b → Front (take n b) → (runCheck (take n b) ≡ 0) × (take (runSize (take n b)) (take n b) ≡ take n b)
+        × (drop (runSize (take n b)) (take n b) ≡ [])
+    go (nothing m e) a = absurd (omega (arith, empty-size b m))
+    go (other m k e) a = absurd (omega (arith, refused-size b (omega arith)))
+    go (short m k e) a = absurd (omega (arith, refused-size b (omega arith)))
+    go (whole p m e s) a = alone a
+      where
+        f : formOf (take n b) .length ≡ n
+        f =
+            let m = mark-take n b (let q = form-least b p in omega arith) (size-le b) in
+            ap (λ (v : ℕ). formFor v .length) m ∙ sym s
+
+        alone : Front (take n b) → (runCheck (take n b) ≡ 0) × (take (runSize (take n b)) (take n b) ≡ take n b)
+            × (drop (runSize (take n b)) (take n b) ≡ [])
+        alone (nothing m e) = absurd (omega (arith, l))
+        alone (other m k e) = absurd (omega (arith, f))
+        alone (short m k e) = absurd (omega (arith, l, f))
+        alone (whole q k d t) =
+            let z : length (take n b) ≤ runSize (take n b) = omega (arith, t, f, l) in
+            (d, take-all (runSize (take n b)) (take n b) z, drop-of-length-le (take n b) z)
 
 end-nothing : runCheck [] ≡ 0
 unfolding runCheck

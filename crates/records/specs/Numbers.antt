@@ -4,7 +4,8 @@ use mathlib.Core.List.{List}
 use Prim.Native.Nat.{ℕ}
 use lib.ListN.{getD}
 use lib.Dec.{eqb, ltb, leb}
-use Rattle.laws.specs.Fin.{anyb}
+use Rattle.laws.specs.Fin.{anyb, sum}
+use Rattle.laws.specs.Upd.{ifb}
 use Rattle.seats.specs.Offices.{serves}
 
 -- L: no number in a state or record passes it
@@ -17,6 +18,13 @@ within n = leb n limit
 -- 8: one of sixteen numbers is above L
 abbrev pub aboveLimit : List ℕ → Bool
 aboveLimit numbers = anyb 16 (λ o. ltb limit (getD numbers o 0))
+
+-- a number that is not 0, and how many of sixteen are
+abbrev pub nonZero : List ℕ → ℕ → Bool
+nonZero numbers o = not (eqb (getD numbers o 0) 0)
+
+abbrev pub nonZeroCount : List ℕ → ℕ
+nonZeroCount numbers = sum 16 (λ o. ifb (nonZero numbers o) 1 0)
 
 -- 10: one of sixteen numbers is not 0 for an office without a seat in the members
 abbrev pub strayNumber : ℕ → List ℕ → Bool

@@ -3,7 +3,7 @@ use mathlib.Core.Path.{_≡_, ap, _∙_}
 use mathlib.Core.Bool.{Bool, true, _&&_, _||_}
 use mathlib.Core.Logic.{_⊎_, inl, inr}
 use mathlib.Core.List.{List}
-use Prim.Native.Nat.{ℕ, _+_, _*_, _<_, _≤_}
+use Prim.Native.Nat.{ℕ, _+_, _*_, _<_, _≤_, _^_}
 use native.Mathlib.Omega.{arith}
 use lib.ListN.{length, getD}
 use lib.Seq.{sets, length-sets}
@@ -13,10 +13,17 @@ use Rattle.laws.proofs.Fin.{and-l, and-r, or-cases}
 use Rattle.laws.specs.Tab.{tab}
 use Rattle.laws.proofs.Tab.{tab-ext}
 use Rattle.laws.proofs.Seqs.{getD-sets-at, getD-sets-out}
-use Rattle.row.specs.Row.{ownPlace, modePlace, netPlace, membersPlace, slotLength, slotPlace, startPlace}
-use Rattle.row.specs.Row.{numberPlace, viewPlace, startsPlace, acceptedPlace, usedPlace, storedLength}
+use Rattle.row.specs.Row.{ownPlace, modePlace, netPlace, membersPlace, presentPlace, slotLength, slotPlace}
+use Rattle.row.specs.Row.{startPlace, numberPlace, viewPlace, startsPlace, acceptedPlace, usedPlace}
+use Rattle.row.specs.Row.{storedLength}
 use Rattle.row.specs.Row.{numbersPlace, setAt, modeOf, sixteenWords, slotOf, Row}
+use Rattle.seats.specs.Seats.{has}
+use Rattle.rules.specs.State.{Slot}
 use Rattle.row.proofs.Parts.{viewAt}
+
+-- a slot by its two parts
+pub slot-same : (v w : Slot) → v .present ≡ w .present → v .proposal ≡ w .proposal → v ≡ w
+slot-same v w p q = let e : record { present = v .present; proposal = v .proposal } ≡ w = rw (p, q) in e
 
 -- Two runs of stores, xs from i on and then ys from j on; one store is a run, and a run may be empty.
 module _ (ws : List ℕ) (i : ℕ) (xs : List ℕ) (j : ℕ) (ys : List ℕ) where
@@ -48,18 +55,16 @@ module _ (ws : List ℕ) (i : ℕ) (xs : List ℕ) (j : ℕ) (ys : List ℕ) whe
       tab-ext 16 (λ o. getD stores (k + o) 0) (λ o. getD ws (k + o) 0)
       (λ o l. word-kept (k + o) (part-clear k 16 (k + o) 1 h (omega arith) (omega arith)))
 
-  pub slot-kept : (o : ℕ) → Clear (slotPlace o) slotLength → Clear (numbersPlace o) storedLength
-      → slotOf stores o ≡ slotOf ws o
+  pub proposal-kept : (o : ℕ) → Clear (slotPlace o) slotLength → Clear (numbersPlace o) storedLength
+      → slotOf stores o .proposal ≡ slotOf ws o .proposal
   unfolding slotOf
-  slot-kept o h g =
+  proposal-kept o h g =
       rw (
         word-kept (slotPlace o) (part-clear (slotPlace o) slotLength (slotPlace o) 1 h (omega arith) (omega arith)),
         word-kept (slotPlace o + 1)
             (part-clear (slotPlace o) slotLength (slotPlace o + 1) 1 h (omega arith) (omega arith)),
-        word-kept (slotPlace o + 2)
-            (part-clear (slotPlace o) slotLength (slotPlace o + 2) 1 h (omega arith) (omega arith)),
-        set-kept (slotPlace o + 3)
-            (part-clear (slotPlace o) slotLength (slotPlace o + 3) 2 h (omega arith) (omega arith)),
+        set-kept (slotPlace o + 2)
+            (part-clear (slotPlace o) slotLength (slotPlace o + 2) 2 h (omega arith) (omega arith)),
         word-kept (numbersPlace o)
             (part-clear (numbersPlace o) storedLength (numbersPlace o) 1 g (omega arith) (omega arith)),
         word-kept (numbersPlace o + 1)
@@ -68,13 +73,22 @@ module _ (ws : List ℕ) (i : ℕ) (xs : List ℕ) (j : ℕ) (ys : List ℕ) whe
             (part-clear (numbersPlace o) storedLength (numbersPlace o + 2) 16 g (omega arith) (omega arith)),
       )
 
-  slots-kept : Clear (slotPlace 0) (slotLength * 16) → Clear (numbersPlace 0) (storedLength * 16)
+  present-kept : (o : ℕ) → Clear presentPlace 1 → slotOf stores o .present ≡ slotOf ws o .present
+  unfolding slotOf
+  present-kept o h = ap (λ (w : ℕ). has w o) (word-kept presentPlace h)
+
+  pub slot-kept : (o : ℕ) → Clear presentPlace 1 → Clear (slotPlace o) slotLength
+      → Clear (numbersPlace o) storedLength
+      → slotOf stores o ≡ slotOf ws o
+  slot-kept o p h g = slot-same (slotOf stores o) (slotOf ws o) (present-kept o p) (proposal-kept o h g)
+
+  slots-kept : Clear presentPlace (1 + slotLength * 16) → Clear (numbersPlace 0) (storedLength * 16)
       → tab 16 (slotOf stores) ≡ tab 16 (slotOf ws)
   slots-kept h g =
       tab-ext 16 (slotOf stores) (slotOf ws)
-      (λ o l. slot-kept o (part-clear (slotPlace 0) (slotLength * 16) (slotPlace o) slotLength h (omega arith)
-      (omega arith)) (part-clear (numbersPlace 0) (storedLength * 16) (numbersPlace o) storedLength g
-      (omega arith) (omega arith)))
+      (λ o l. slot-kept o (part-clear presentPlace (1 + slotLength * 16) presentPlace 1 h (omega arith) (omega arith))
+      (part-clear presentPlace (1 + slotLength * 16) (slotPlace o) slotLength h (omega arith) (omega arith))
+      (part-clear (numbersPlace 0) (storedLength * 16) (numbersPlace o) storedLength g (omega arith) (omega arith)))
 
   view-kept : Clear membersPlace 2 → Clear viewPlace 17 → viewAt stores ≡ viewAt ws
   view-kept h g =
@@ -101,7 +115,7 @@ module _ (ws : List ℕ) (i : ℕ) (xs : List ℕ) (j : ℕ) (ys : List ℕ) whe
     pub own : free ownPlace 1 ≡ true → getD stores ownPlace 0 ≡ getD ws ownPlace 0
     pub mode : free modePlace 1 ≡ true → modeOf (getD stores modePlace 0) ≡ modeOf (getD ws modePlace 0)
     pub net : free netPlace 2 ≡ true → setAt stores netPlace ≡ setAt ws netPlace
-    pub stored : free (slotPlace 0) (slotLength * 16) && free (numbersPlace 0) (storedLength * 16) ≡ true
+    pub stored : free presentPlace (1 + slotLength * 16) && free (numbersPlace 0) (storedLength * 16) ≡ true
         → tab 16 (slotOf stores) ≡ tab 16 (slotOf ws)
     pub accepted : free acceptedPlace 16 ≡ true → sixteenWords stores acceptedPlace ≡ sixteenWords ws acceptedPlace
     pub view : free membersPlace 2 && free viewPlace 17 ≡ true → viewAt stores ≡ viewAt ws
@@ -109,8 +123,7 @@ module _ (ws : List ℕ) (i : ℕ) (xs : List ℕ) (j : ℕ) (ys : List ℕ) whe
     pub number : free numberPlace 1 ≡ true → getD stores numberPlace 0 ≡ getD ws numberPlace 0
     pub used : free usedPlace 16 ≡ true → sixteenWords stores usedPlace ≡ sixteenWords ws usedPlace
     pub modeWord : free modePlace 1 ≡ true → Row ws → getD stores modePlace 0 ≤ 2
-    pub flags : free (slotPlace 0) (slotLength * 16) ≡ true → Row ws → (o : ℕ) → o < 16
-        → getD stores (slotPlace o) 0 ≤ 1
+    pub present : free presentPlace 1 ≡ true → Row ws → getD stores presentPlace 0 < 2 ^ 16
 
   abbrev pub apart : ℕ → ℕ → ℕ → ℕ → Bool
   apart lo hi k n = leb hi k || leb (k + n) lo
@@ -122,8 +135,8 @@ module _ (ws : List ℕ) (i : ℕ) (xs : List ℕ) (j : ℕ) (ys : List ℕ) whe
     mode = λ t. ap modeOf (word-kept modePlace (clear modePlace 1 t));
     net = λ t. set-kept netPlace (clear netPlace 2 t);
     stored = λ t. slots-kept
-        (clear (slotPlace 0) (slotLength * 16) (and-l _ (free (numbersPlace 0) (storedLength * 16)) t))
-        (clear (numbersPlace 0) (storedLength * 16) (and-r (free (slotPlace 0) (slotLength * 16)) _ t));
+        (clear presentPlace (1 + slotLength * 16) (and-l _ (free (numbersPlace 0) (storedLength * 16)) t))
+        (clear (numbersPlace 0) (storedLength * 16) (and-r (free presentPlace (1 + slotLength * 16)) _ t));
     accepted = λ t. sixteen-kept acceptedPlace (clear acceptedPlace 16 t);
     view = λ t. view-kept (clear membersPlace 2 (and-l _ (free viewPlace 17) t))
         (clear viewPlace 17 (and-r (free membersPlace 2) _ t));
@@ -131,9 +144,7 @@ module _ (ws : List ℕ) (i : ℕ) (xs : List ℕ) (j : ℕ) (ys : List ℕ) whe
     number = λ t. word-kept numberPlace (clear numberPlace 1 t);
     used = λ t. sixteen-kept usedPlace (clear usedPlace 16 t);
     modeWord = λ t r. rw (word-kept modePlace (clear modePlace 1 t)) (r .mode);
-    flags = λ t r o l. rw (word-kept (slotPlace o)
-        (part-clear (slotPlace 0) (slotLength * 16) (slotPlace o) 1 (clear (slotPlace 0) (slotLength * 16) t)
-        (omega arith) (omega arith))) (r .flags o l);
+    present = λ t r. rw (word-kept presentPlace (clear presentPlace 1 t)) (r .present);
   }
     where
       free : ℕ → ℕ → Bool

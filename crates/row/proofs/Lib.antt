@@ -1,6 +1,7 @@
 -- The laws, in the order of the modules that they serve: readers; form and checks; changes and slots; the crates
 -- above.
 pub mod Parts
+pub mod Presence
 pub mod Low
 mod Stretches
 mod Kept

@@ -1,53 +1,33 @@
 -- For form and checks: the tests of a row, what the loops compute, and what they say of the state.
-use mathlib.Core.Path.{_≡_, refl, sym, ap}
+use mathlib.Core.Path.{_≡_, refl, sym, ap, _∙_}
 use mathlib.Core.Bool.{Bool, true, false, not, _&&_, _||_}
 use mathlib.Core.List.{List}
-use Prim.Native.Nat.{ℕ, _+_, _*_, _<_, _≤_}
+use Prim.Native.Nat.{ℕ, _+_, _^_, _<_, _≤_}
 use native.Mathlib.Omega.{arith}
 use lib.ListN.{length, getD}
-use lib.Dec.{eqb, leb}
-use lib.Bits.{bitOr, or-lt, or-comm}
-use borrow.Author.Tests.{eq-eqb, ne-eqb, eqb-true, leb-true, leb-false, le-leb, lt-leb}
+use lib.Dec.{eqb, leb, ltb}
+use borrow.Author.Tests.{eq-eqb, ne-eqb, eqb-true, leb-true, le-leb, lt-ltb, ltb-true}
 use Rattle.laws.specs.Fin.{allb}
-use Rattle.laws.proofs.Fin.{allb-in, allb-out, and-l, and-r, and-in, allb-ext, or-in}
-use Rattle.laws.proofs.Bit.{or-above}
+use Rattle.laws.proofs.Fin.{allb-in, allb-out, and-l, and-r, and-in, or-in, allb-ext, true-false}
 use Rattle.laws.proofs.Tab.{getD-tab}
+use Rattle.seats.specs.Seats.{has}
 use Rattle.rules.specs.State.{storedAt}
-use Rattle.rules.specs.Bounds.{SlotCapped, Capped}
-use Rattle.records.specs.Numbers.{limit, within}
+use Rattle.rules.specs.Bounds.{SlotCapped, Capped, low}
+use Rattle.records.specs.Numbers.{within}
 use Rattle.rules.specs.Refusals.{slotWithin, wellFormed}
-use Rattle.row.specs.Row.{ownPlace, modePlace, slotPlace, startPlace, numberPlace, viewPlace, startsPlace}
-use Rattle.row.specs.Row.{acceptedPlace, usedPlace, storedLength, numbersPlace, rowLength, numbersCount}
-use Rattle.row.specs.Row.{ownNumbers, sixteenWords, slotOf, stateOf, Row, areFlags, isRow, soundRow, low}
-use Rattle.row.specs.Row.{lowRow}
+use Rattle.row.specs.Row.{ownPlace, modePlace, presentPlace, startPlace, numberPlace, viewPlace, startsPlace}
+use Rattle.row.specs.Row.{acceptedPlace, usedPlace, numbersPlace, rowLength, sixteenWords, slotOf, stateOf, Row}
+use Rattle.row.specs.Row.{isRow, soundRow, presence, lowAt, storedLow, NoneAbove}
 use Rattle.row.proofs.Parts.{row-stored}
-
--- two numbers are at most low, thirty ones, just where their digits together are
-pub or-low : (a b : ℕ) → leb (bitOr a b) low ≡ leb b low && leb a low
-or-low a b = go (leb b low) (leb a low) refl refl
-  where
-    go : (s t : Bool) → leb b low ≡ s → leb a low ≡ t → leb (bitOr a b) low ≡ s && t
-    go true true x y =
-        let p = leb-true b low x in
-        let q = leb-true a low y in
-        let l = or-lt 30 a b (omega arith) (omega arith) in
-        le-leb (bitOr a b) low (omega arith)
-    go true false x y =
-        let q = leb-false a low y in
-        let l = or-above b a in
-        let c = or-comm a b in
-        lt-leb (bitOr a b) low (omega arith)
-    go false t x y =
-        let p = leb-false b low x in
-        let l = or-above a b in
-        lt-leb (bitOr a b) low (omega arith)
+use Rattle.row.proofs.Presence.{has-presence}
 
 -- the tests of a row
 pub row-not : (ws : List ℕ) → (length ws ≡ rowLength → ⊥) → isRow ws ≡ false
 unfolding isRow
 row-not ws n = rw (ne-eqb (length ws) rowLength n)
 
-pub row-tests : (ws : List ℕ) → length ws ≡ rowLength → isRow ws ≡ leb (getD ws modePlace 0) 2 && areFlags ws
+pub row-tests : (ws : List ℕ) → length ws ≡ rowLength → isRow ws
+    ≡ leb (getD ws modePlace 0) 2 && ltb (getD ws presentPlace 0) (2 ^ 16)
 unfolding isRow
 row-tests ws e = rw (eq-eqb (length ws) rowLength e)
 
@@ -56,25 +36,15 @@ unfolding isRow
 row-is ws e =
     let n = eqb (length ws) rowLength in
     let m = leb (getD ws modePlace 0) 2 in
-    let f = areFlags ws in
+    let f = ltb (getD ws presentPlace 0) (2 ^ 16) in
     let head = and-l (n && m) f e in
     record {
       long = eqb-true (length ws) rowLength (and-l n m head);
-      flags = λ o h. leb-true (getD ws (slotPlace o) 0) 1
-          (allb-out 16 (λ i. leb (getD ws (slotPlace i) 0) 1) (and-r (n && m) f e) o h);
+      present = ltb-true (getD ws presentPlace 0) (2 ^ 16) (and-r (n && m) f e);
       mode = leb-true (getD ws modePlace 0) 2 (and-r n m head);
     }
 
--- the two tests of the state that it holds, by its words
-pub not-low : (ws : List ℕ) → isRow ws ≡ false → lowRow ws ≡ false
-unfolding lowRow
-not-low ws e = rw e
-
-pub low-words : (ws : List ℕ) → isRow ws ≡ true
-    → lowRow ws ≡ leb (getD ws ownPlace 0) 15 && allb numbersCount (λ k. leb (getD ws (startPlace + k) 0) low)
-unfolding lowRow
-low-words ws e = rw e
-
+-- check 2 of the state that it holds, by its words
 pub not-sound : (ws : List ℕ) → isRow ws ≡ false → soundRow ws ≡ false
 unfolding soundRow
 not-sound ws e = rw e
@@ -113,98 +83,54 @@ pub sound-well : (ws : List ℕ) → soundRow ws ≡ true → wellFormed (stateO
 unfolding soundRow
 sound-well ws e = and-r (isRow ws) (wellFormed (stateOf ws)) e
 
-module _ (ws : List ℕ) (e : lowRow ws ≡ true) where
-  low-tests : isRow ws && leb (getD ws ownPlace 0) 15 ≡ true
-  unfolding lowRow
-  low-tests = and-l (isRow ws && leb (getD ws ownPlace 0) 15)
-      (allb numbersCount (λ k. leb (getD ws (startPlace + k) 0) low)) e
+low-of : (t l : Bool) → not t || l ≡ true → t ≡ true → l ≡ true
+low-of true l e p = e
+low-of false l e p = absurd (true-false false p refl)
 
-  low-isRow : isRow ws ≡ true
-  low-isRow = and-l (isRow ws) (leb (getD ws ownPlace 0) 15) low-tests
-
-  low-own : leb (getD ws ownPlace 0) 15 ≡ true
-  low-own = and-r (isRow ws) (leb (getD ws ownPlace 0) 15) low-tests
-
-  low-number : (p k : ℕ) → p ≡ startPlace + k → k < numbersCount → getD ws p 0 ≤ low
-  unfolding lowRow
-  low-number p k q l =
-      rw q (leb-true (getD ws (startPlace + k) 0) low
-      (allb-out numbersCount (λ k. leb (getD ws (startPlace + k) 0) low)
-      (and-r (isRow ws && leb (getD ws ownPlace 0) 15) _ e) k l))
-
-  low-within : (p k : ℕ) → p ≡ startPlace + k → k < numbersCount → within (getD ws p 0) ≡ true
-  low-within p k q l = let n = low-number p k q l in le-leb (getD ws p 0) limit (omega arith)
-
-  low-sixteen : (at k : ℕ) → at ≡ startPlace + k → k + 16 ≤ numbersCount
-      → allb 16 (λ j. within (getD ws (at + j) 0)) ≡ true
-  low-sixteen at k q l = allb-in
-      16 (λ j. within (getD ws (at + j) 0)) (λ j h. low-within (at + j) (k + j) (omega arith) (omega arith))
-
-  low-slot : (o : ℕ) → o < 16 → slotWithin (storedAt (stateOf ws) o) ≡ true
-  low-slot o h =
-      rw (slot-words ws o h)
-      (or-in (not (storedAt (stateOf ws) o .present)) _
-      (and-in _ _ (and-in _ _
-      (low-within (numbersPlace o) (ownNumbers + storedLength * o) (omega arith) (omega arith))
-      (low-within (numbersPlace o + 1) (ownNumbers + storedLength * o + 1) (omega arith) (omega arith)))
-      (low-sixteen (numbersPlace o + 2) (ownNumbers + storedLength * o + 2) (omega arith) (omega arith))))
-
-  low-well : wellFormed (stateOf ws) ≡ true
-  low-well =
-      rw (well-words ws)
-      (and-in _ _ (and-in _ _ (and-in _ _ (and-in _ _ (and-in _ _ (and-in _ _ (and-in _ _ low-own
-      (low-within viewPlace 2 (omega arith) (omega arith))) (low-within startPlace 0 (omega arith) (omega arith)))
-      (low-within numberPlace 1 (omega arith) (omega arith)))
-      (low-sixteen startsPlace 3 (omega arith) (omega arith)))
-      (low-sixteen acceptedPlace 19 (omega arith) (omega arith)))
-      (low-sixteen usedPlace 35 (omega arith) (omega arith)))
-      (allb-in 16 (λ o. slotWithin (storedAt (stateOf ws) o)) low-slot))
-
-  pub low-sound : soundRow ws ≡ true
-  low-sound = rw (sound-words ws low-isRow) low-well
-
-  low-stored : (o : ℕ) → o < 16 → SlotCapped low low (storedAt (stateOf ws) o)
-  unfolding slotOf
-  low-stored o h = rw (row-stored ws o h) (record {
-    start = λ p. low-number (numbersPlace o) (ownNumbers + storedLength * o) (omega arith) (omega arith);
-    number = λ p. low-number (numbersPlace o + 1) (ownNumbers + storedLength * o + 1) (omega arith) (omega arith);
-  })
-
-  pub low-is : Capped low low (stateOf ws)
-  unfolding stateOf
-  low-is = record {
-    view = low-number viewPlace 2 (omega arith) (omega arith);
-    start = low-number startPlace 0 (omega arith) (omega arith);
-    number = low-number numberPlace 1 (omega arith) (omega arith);
-    stored = low-stored;
-  }
+capped-at : (ws : List ℕ) (o : ℕ) → o < 16 → not (has (presence (stateOf ws)) o) || lowAt ws o ≡ true
+    → SlotCapped low low (storedAt (stateOf ws) o)
+unfolding slotOf lowAt
+capped-at ws o h e =
+    let l : storedAt (stateOf ws) o .present ≡ true → lowAt ws o ≡ true =
+    λ p. low-of (has (presence (stateOf ws)) o) (lowAt ws o) e (has-presence (stateOf ws) o h ∙ p) in
+    let a = leb (getD ws (numbersPlace o) 0) low in
+    let b = leb (getD ws (numbersPlace o + 1) 0) low in
+    record {
+      start = λ p. rw (row-stored ws o h) (leb-true _ low (and-l a b (l p)));
+      number = λ p. rw (row-stored ws o h) (leb-true _ low (and-r a b (l p)));
+    }
 
 -- the numbers that an event builds on are low
 pub capped-is : (ws : List ℕ) → leb (getD ws startPlace 0) low && leb (getD ws numberPlace 0) low
-    && leb (getD ws viewPlace 0) low
-    && allb 16 (λ o. leb (getD ws (numbersPlace o + 1) 0) low && leb (getD ws (numbersPlace o) 0) low) ≡ true
+    && leb (getD ws viewPlace 0) low && storedLow ws ≡ true
     → Capped low low (stateOf ws)
-unfolding stateOf slotOf
+unfolding stateOf slotOf lowAt
 capped-is ws e =
     let a = leb (getD ws startPlace 0) low in
     let b = leb (getD ws numberPlace 0) low in
     let v = leb (getD ws viewPlace 0) low in
-    let f : ℕ → Bool = λ o. leb (getD ws (numbersPlace o + 1) 0) low && leb (getD ws (numbersPlace o) 0) low in
+    let f : ℕ → Bool = λ o. not (has (presence (stateOf ws)) o) || lowAt ws o in
     let x = and-l (a && b && v) (allb 16 f) e in
     let all = and-r (a && b && v) (allb 16 f) e in
     record {
       view = leb-true _ low (and-r (a && b) v x);
       start = leb-true _ low (and-l a b (and-l (a && b) v x));
       number = leb-true _ low (and-r a b (and-l (a && b) v x));
-      stored = λ o h. rw (row-stored ws o h) (record {
-        start = λ p. leb-true _ low (and-r (leb (getD ws (numbersPlace o + 1) 0) low) _ (allb-out 16 f all o h));
-        number = λ p. leb-true _ low (and-l (leb (getD ws (numbersPlace o + 1) 0) low) _ (allb-out 16 f all o h));
-      });
+      stored = λ o h. capped-at ws o h (allb-out 16 f all o h);
     }
+
+-- no number is above the digits of all, and these are low
+pub digits-low : (ws : List ℕ) (all : ℕ) → all ≤ low
+    → NoneAbove all 16 ws → storedLow ws ≡ true
+unfolding lowAt
+digits-low ws all l h =
+    allb-in 16 _ (λ o m. or-in (not (has (presence (stateOf ws)) o)) _ (and-in _ _
+    (le-leb (getD ws (numbersPlace o) 0) low (omega (arith, h o m .0)))
+    (le-leb (getD ws (numbersPlace o + 1) 0) low (omega (arith, h o m .1)))))
 
 -- a row passes the test for one
 pub is-row : (ws : List ℕ) → Row ws → isRow ws ≡ true
 unfolding isRow
 is-row ws r =
     and-in _ _ (and-in _ _ (eq-eqb (length ws) rowLength (r .long)) (le-leb _ _ (r .mode)))
-    (allb-in 16 _ (λ o l. le-leb _ _ (r .flags o l)))
+    (lt-ltb _ _ (r .present))

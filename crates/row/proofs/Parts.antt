@@ -1,21 +1,20 @@
 -- For readers: the parts of a row, what stands in each, and a part from its words.
 use mathlib.Core.Path.{_≡_, refl, sym}
-use mathlib.Core.Bool.{Bool, true, false, not}
 use mathlib.Core.List.{List}
 use Prim.Native.Nat.{ℕ, zero, suc, _+_, _*_, _/_, _%_, _<_, _≤_}
 use native.Mathlib.Omega.{arith}
 use lib.ListN.{length, getD}
-use lib.Dec.{eqb}
 use Rattle.laws.specs.Tab.{tab}
 use Rattle.laws.proofs.Tab.{getD-tab, filled}
 use Rattle.seats.specs.declared.SeatSet.{SeatSet}
+use Rattle.seats.specs.Seats.{has}
 use Rattle.records.specs.declared.View.{View}
 use Rattle.rules.specs.State.{Mode, None, Fast, Slow, Slot, State, nothing, storedAt, acceptedAt, usedAt, usedFor}
 use Rattle.rules.specs.State.{kindOf}
-use Rattle.row.specs.Row.{ownPlace, modePlace, netPlace, membersPlace, slotLength, slotPlace, startPlace}
+use Rattle.row.specs.Row.{ownPlace, modePlace, netPlace, membersPlace, presentPlace, slotLength, slotPlace}
 use Rattle.row.specs.Row.{numberPlace, viewPlace, startsPlace, acceptedPlace, usedPlace, storedLength}
-use Rattle.row.specs.Row.{numbersPlace, word, flag, slotWords, slotNumbers, setAt, modeOf, sixteenWords, slotOf}
-use Rattle.row.specs.Row.{stateOf}
+use Rattle.row.specs.Row.{numbersPlace, word, slotWords, slotNumbers, setAt, modeOf, sixteenWords, slotOf}
+use Rattle.row.specs.Row.{stateOf, startPlace}
 
 -- what stands for an office
 pub row-accepted : (ws : List ℕ) (o : ℕ) → o < 16 → acceptedAt (stateOf ws) o ≡ getD ws (acceptedPlace + o) 0
@@ -81,29 +80,20 @@ pub sixteen-read : (ws : List ℕ) (k : ℕ) (l : List ℕ) → length l ≡ 16
     → ((j : ℕ) → j < 16 → getD ws (k + j) 0 ≡ getD l j 0) → sixteenWords ws k ≡ l
 sixteen-read ws k l e h = sym (filled 16 (λ j. getD ws (k + j) 0) 0 l e (λ j m. sym (h j m)))
 
--- a presence word
-pub flag-read : (b : Bool) → not (eqb (flag b) 0) ≡ b
-flag-read true = refl
-flag-read false = refl
-
-pub flag-le : (b : Bool) → flag b ≤ 1
-flag-le true = omega arith
-flag-le false = omega arith
-
--- a slot, from its words and its numbers
+-- a slot, from whether it is present, its words and its numbers
 pub slot-read : (ws : List ℕ) (o : ℕ) (v : Slot) → length (v .proposal .used) ≡ 16
+    → has (getD ws presentPlace 0) o ≡ v .present
     → ((p k : ℕ) → p ≡ slotPlace o + k → k < slotLength → getD ws p 0 ≡ getD (slotWords v) k 0)
     → ((p k : ℕ) → p ≡ numbersPlace o + k → k < storedLength → getD ws p 0 ≡ getD (slotNumbers v) k 0)
     → slotOf ws o ≡ v
 unfolding slotOf
-slot-read ws o v n f g =
+slot-read ws o v n e f g =
     rw (
+      e,
       f (slotPlace o) 0 (omega arith) (omega arith),
-      flag-read (v .present),
       f (slotPlace o + 1) 1 (omega arith) (omega arith),
-      f (slotPlace o + 2) 2 (omega arith) (omega arith),
-      set-read ws (slotPlace o + 3) (v .proposal .members) (f (slotPlace o + 3) 3 (omega arith) (omega arith))
-          (f (slotPlace o + 3 + 1) 4 (omega arith) (omega arith)),
+      set-read ws (slotPlace o + 2) (v .proposal .members) (f (slotPlace o + 2) 2 (omega arith) (omega arith))
+          (f (slotPlace o + 2 + 1) 3 (omega arith) (omega arith)),
       g (numbersPlace o) 0 (omega arith) (omega arith),
       g (numbersPlace o + 1) 1 (omega arith) (omega arith),
       sixteen-read ws (numbersPlace o + 2) (v .proposal .used) n

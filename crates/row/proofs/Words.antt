@@ -1,26 +1,26 @@
 -- For the crates above: words and state determine each other. A row is the words of its state, and the words of a
 -- state that has its lengths hold that state.
 use mathlib.Core.Path.{_≡_, refl, sym, ap, _∙_}
-use mathlib.Core.Bool.{not}
 use mathlib.Core.List.{List, [], _∷_, _++_}
 use Prim.Native.Nat.{ℕ, zero, suc, _+_, _-_, _*_, _/_, _%_, _<_, _≤_}
 use native.Mathlib.Omega.{arith}
 use native.Mathlib.Decide.{decLt}
 use lib.ListN.{length, getD, length-append, List·getD-append, List·getD-eq-default}
 use lib.Seq.{getD-append-add}
-use lib.Dec.{eqb}
 use Rattle.laws.specs.Tab.{tab}
+use Rattle.seats.specs.Seats.{has}
 use Rattle.laws.proofs.Tab.{tab-ext, length-tab, getD-tab, filled}
 use Rattle.laws.proofs.Seqs.{tab-add, tab-self}
 use Rattle.rules.specs.State.{Mode, None, Fast, Slow, Slot, State, kindOf, zeros, nothing, storedAt}
 use Rattle.rules.specs.Rules.{restarted}
 use Rattle.rule_laws.proofs.Shapes.{Shaped}
-use Rattle.row.specs.Row.{word, ownPlace, modePlace, netPlace, membersPlace, slotLength, slotPlace, startPlace}
-use Rattle.row.specs.Row.{numberPlace, viewPlace, startsPlace, acceptedPlace, usedPlace, storedLength}
-use Rattle.row.specs.Row.{numbersPlace, rowLength, setAt, modeOf, sixteenWords, slotOf, stateOf, flag, setWords}
-use Rattle.row.specs.Row.{slotWords, slotNumbers, each, wordsOf, Row}
-use Rattle.row.proofs.Parts.{by-parts, viewAt, row-stored, mode-word, mode-back, flag-le, set-read}
+use Rattle.row.specs.Row.{word, ownPlace, modePlace, netPlace, membersPlace, presentPlace, slotLength}
+use Rattle.row.specs.Row.{slotPlace, startPlace, numberPlace, viewPlace, startsPlace, acceptedPlace, usedPlace}
+use Rattle.row.specs.Row.{storedLength, numbersPlace, rowLength, setAt, modeOf, sixteenWords, slotOf, stateOf}
+use Rattle.row.specs.Row.{presence, setWords, slotWords, slotNumbers, each, wordsOf, Row}
+use Rattle.row.proofs.Parts.{by-parts, viewAt, row-stored, mode-word, mode-back, set-read}
 use Rattle.row.proofs.Parts.{sixteen-read, slot-read}
+use Rattle.row.proofs.Presence.{row-presence, has-presence, presence-lt}
 
 -- how many words of a row there are from a place on
 abbrev rest : ℕ → ℕ
@@ -60,10 +60,9 @@ three : (f : ℕ → ℕ) (l : List ℕ) → f 0 ∷ f 1 ∷ f 2 ∷ l ≡ tab 3
 unfolding tab
 three f l = refl
 
-flag-word : (n : ℕ) → n ≤ 1 → flag (not (eqb n 0)) ≡ n
-flag-word zero h = refl
-flag-word (suc zero) h = refl
-flag-word (suc (suc n)) h = absurd (omega arith)
+one : (f : ℕ → ℕ) (l : List ℕ) → f 0 ∷ l ≡ tab 1 f ++ l
+unfolding tab
+one f l = refl
 
 module _ (ws : List ℕ) (r : Row ws) (s : (k : ℕ) → getD ws k 0 < word) where
   abbrev g : ℕ → ℕ
@@ -77,12 +76,12 @@ module _ (ws : List ℕ) (r : Row ws) (s : (k : ℕ) → getD ws k 0 < word) whe
       let b : (g at + word * g (at + 1)) / word ≡ g (at + 1) = omega arith in
       rw (a, b)
 
-  slot-words : (o : ℕ) → o < 16 → slotWords (slotOf ws o) ≡ run g (slotPlace o) slotLength
+  slot-words : (o : ℕ) → slotWords (slotOf ws o) ≡ run g (slotPlace o) slotLength
   unfolding slotOf tab
-  slot-words o h =
+  slot-words o =
       let a : slotPlace o + 0 ≡ slotPlace o = omega arith in
-      let b : slotPlace o + 3 + 1 ≡ slotPlace o + 4 = omega arith in
-      rw (flag-word (g (slotPlace o)) (r .flags o h), set-words (slotPlace o + 3), a, b)
+      let b : slotPlace o + 2 + 1 ≡ slotPlace o + 3 = omega arith in
+      rw (set-words (slotPlace o + 2), a, b)
 
   slot-numbers : (o : ℕ) → slotNumbers (slotOf ws o) ≡ run g (numbersPlace o) storedLength
   unfolding slotOf tab
@@ -109,9 +108,16 @@ module _ (ws : List ℕ) (r : Row ws) (s : (k : ℕ) → getD ws k 0 < word) whe
   slots-on : (l : List ℕ) → l ≡ run g startPlace (rest startPlace)
       → each slotWords (tab 16 (slotOf ws)) ++ l ≡ run g (slotPlace 0) (rest (slotPlace 0))
   slots-on l e =
-      ap (λ (x : List ℕ). x ++ l) (each-run slotWords g slotLength 16 (slotPlace 0) (slotOf ws) slot-words)
+      ap (λ (x : List ℕ). x ++ l) (each-run slotWords g slotLength 16 (slotPlace 0) (slotOf ws) (λ o h. slot-words o))
       ∙ ap (λ (x : List ℕ). run g (slotPlace 0) (slotLength * 16) ++ x) e
       ∙ join g (slotPlace 0) (slotLength * 16) startPlace (rest startPlace) refl
+
+  present-on : (l : List ℕ) → l ≡ run g (slotPlace 0) (rest (slotPlace 0))
+      → presence (stateOf ws) ∷ l ≡ run g presentPlace (rest presentPlace)
+  present-on l e =
+      ap (λ (w : ℕ). w ∷ l) (sym (row-presence ws r)) ∙ one (λ k. g (presentPlace + k)) l
+      ∙ ap (λ (x : List ℕ). run g presentPlace 1 ++ x) e
+      ∙ join g presentPlace 1 (slotPlace 0) (rest (slotPlace 0)) refl
 
   three-on : (l : List ℕ) → l ≡ run g startsPlace (rest startsPlace) → g startPlace ∷ g numberPlace ∷ g viewPlace
       ∷ l ≡ run g startPlace (rest startPlace)
@@ -134,7 +140,7 @@ module _ (ws : List ℕ) (r : Row ws) (s : (k : ℕ) → getD ws k 0 < word) whe
       let u = sixteen-on usedPlace (rest (numbersPlace 0)) _ from-numbers in
       let a = sixteen-on startsPlace (rest acceptedPlace) _ (sixteen-on acceptedPlace (rest usedPlace) _ u) in
       head-on _ (set-on netPlace (rest membersPlace) _
-      (set-on membersPlace (rest (slotPlace 0)) _ (slots-on _ (three-on _ a)))) ∙ whole
+      (set-on membersPlace (rest presentPlace) _ (present-on _ (slots-on _ (three-on _ a))))) ∙ whole
 
 pub row-words : (ws : List ℕ) (t : State) → Row ws → ((k : ℕ) → getD ws k 0 < word) → stateOf ws ≡ t → ws ≡ wordsOf t
 row-words ws t r s e = sym (words-state ws r s) ∙ ap wordsOf e
@@ -190,7 +196,11 @@ module _ (s : State) (h : Shaped s) where
 
   at-slots : (k : ℕ) → getD (wordsOf s) (slotPlace 0 + k) 0 ≡ getD (each slotWords (s .stored) ++ fromStart) k 0
   unfolding wordsOf
-  at-slots k = let e : slotPlace 0 + k ≡ suc (suc (suc (suc (suc (suc k))))) = omega arith in rw e
+  at-slots k = let e : slotPlace 0 + k ≡ suc (suc (suc (suc (suc (suc (suc k)))))) = omega arith in rw e
+
+  at-present : getD (wordsOf s) presentPlace 0 ≡ presence s
+  unfolding wordsOf
+  at-present = refl
 
   at-start : (k : ℕ) → getD (wordsOf s) (startPlace + k) 0 ≡ getD fromStart k 0
   at-start k =
@@ -261,7 +271,7 @@ module _ (s : State) (h : Shaped s) where
   pub words-row : Row (wordsOf s)
   words-row = record {
     long = words-long;
-    flags = λ o l. rw (slot-word o l (slotPlace o) 0 (omega arith) (omega arith)) (flag-le (storedAt s o .present));
+    present = rw at-present (presence-lt s);
     mode = rw kind-word (kind-le (s .mode));
   }
 
@@ -289,7 +299,8 @@ module _ (s : State) (h : Shaped s) where
         mode = mode-back (s .mode);
         net = set-read (wordsOf s) netPlace (s .net) refl refl;
         stored = sym (filled 16 (slotOf (wordsOf s)) nothing (s .stored) (h .stored)
-            (λ o l. sym (slot-read (wordsOf s) o (storedAt s o) (h .slots o) (slot-word o l) (slot-number o l))));
+            (λ o l. sym (slot-read (wordsOf s) o (storedAt s o) (h .slots o)
+            (ap (λ (w : ℕ). has w o) at-present ∙ has-presence s o l) (slot-word o l) (slot-number o l))));
         accepted = sixteen-read (wordsOf s) acceptedPlace (s .accepted) x
             (λ j l. at-accepted j ∙ List·getD-append (s .accepted) fromUsed 0 j (omega arith));
         view = view-back;

@@ -1,22 +1,24 @@
--- A state as a row of 425 words of 32 bits, and back. A set of seats is two words, the low one first.
+-- A state as a row of 410 words of 32 bits, and back. A set of seats is two words, the low one first.
 --   0 own office, 1 mode (0 none, 1 fast, 2 slow), 2-3 net view, 4-5 members of the current view,
---   6 + 5o for office o: present (0 or 1), sender, kind, members (2 words) of its stored proposal;
---   then all numbers: 86 start number, 87 proposal number, 88 view number, 89-104 the view's start numbers,
---   105-120 last accepted, 121-136 used numbers,
---   137 + 18o for office o: start number, proposal number, sixteen used numbers of its stored proposal.
+--   6 the offices for which a proposal is stored, bit o for office o,
+--   7 + 4o for office o: sender, kind, members (2 words) of its stored proposal;
+--   then all numbers: 71 start number, 72 proposal number, 73 view number, 74-89 the view's start numbers,
+--   90-105 last accepted, 106-121 used numbers,
+--   122 + 18o for office o: start number, proposal number, sixteen used numbers of its stored proposal.
 use mathlib.Core.Path.{_≡_}
-use mathlib.Core.Bool.{Bool, not, _&&_}
+use mathlib.Core.Bool.{Bool, not, _&&_, _||_}
 use mathlib.Core.List.{List, [], _∷_, _++_}
-use Prim.Native.Nat.{ℕ, zero, suc, _+_, _-_, _*_, _<_, _≤_, _/_, _%_}
+use Prim.Native.Nat.{ℕ, zero, suc, _+_, _-_, _*_, _<_, _≤_, _/_, _%_, _^_}
 use lib.ListN.{length, getD}
-use lib.Dec.{eqb, leb}
+use lib.Dec.{eqb, leb, ltb}
 use Rattle.laws.specs.Fin.{allb}
 use Rattle.laws.specs.Tab.{tab}
-use Rattle.laws.specs.Upd.{ifb}
 use Rattle.seats.specs.declared.SeatSet.{SeatSet}
-use Rattle.rules.specs.State.{Mode, None, Fast, Slow, Slot, State, kindOf}
+use Rattle.seats.specs.Seats.{has}
+use Rattle.seats.specs.Offices.{packed}
+use Rattle.rules.specs.State.{Mode, None, Fast, Slow, Slot, State, kindOf, storedAt}
 use Rattle.rules.specs.Refusals.{wellFormed}
-pub use Rattle.rules.specs.Bounds.{low}
+use Rattle.rules.specs.Bounds.{low}
 
 abbrev pub word : ℕ
 word = 4294967296
@@ -37,12 +39,15 @@ netPlace = modePlace + 1
 abbrev pub membersPlace : ℕ
 membersPlace = netPlace + setLength
 
--- of a stored proposal: present, sender, kind, members
+abbrev pub presentPlace : ℕ
+presentPlace = membersPlace + setLength
+
+-- of a stored proposal: sender, kind, members
 abbrev pub slotLength : ℕ
-slotLength = 3 + setLength
+slotLength = 2 + setLength
 
 abbrev pub slotPlace : ℕ → ℕ
-slotPlace o = membersPlace + setLength + slotLength * o
+slotPlace o = presentPlace + 1 + slotLength * o
 
 abbrev pub startPlace : ℕ
 startPlace = slotPlace 16
@@ -72,10 +77,7 @@ numbersPlace o = usedPlace + 16 + storedLength * o
 abbrev pub rowLength : ℕ
 rowLength = numbersPlace 16
 
--- the numbers stand side by side: how many, and how many before those of what is stored
-abbrev pub numbersCount : ℕ
-numbersCount = rowLength - startPlace
-
+-- the numbers stand side by side: how many before those of what is stored
 abbrev pub ownNumbers : ℕ
 ownNumbers = numbersPlace 0 - startPlace
 
@@ -94,12 +96,12 @@ sixteenWords ws k = tab 16 (λ o. getD ws (k + o) 0)
 unfoldable pub slotOf : List ℕ → ℕ → Slot
 slotOf ws o =
     record {
-      present = not (eqb (getD ws (slotPlace o) 0) 0);
+      present = has (getD ws presentPlace 0) o;
       proposal =
           record {
-            sender = getD ws (slotPlace o + 1) 0;
-            kind = getD ws (slotPlace o + 2) 0;
-            members = setAt ws (slotPlace o + 3);
+            sender = getD ws (slotPlace o) 0;
+            kind = getD ws (slotPlace o + 1) 0;
+            members = setAt ws (slotPlace o + 2);
             start = getD ws (numbersPlace o) 0;
             number = getD ws (numbersPlace o + 1) 0;
             used = sixteenWords ws (numbersPlace o + 2);
@@ -125,14 +127,15 @@ stateOf ws =
     }
 
 -- writing
-abbrev pub flag : Bool → ℕ
-flag b = ifb b 1 0
+-- the offices for which a proposal is stored
+abbrev pub presence : State → ℕ
+presence s = packed 16 (λ o. storedAt s o .present)
 
 abbrev pub setWords : SeatSet → List ℕ
 setWords x = x .bits % word ∷ x .bits / word ∷ []
 
 abbrev pub slotWords : Slot → List ℕ
-slotWords v = flag (v .present) ∷ v .proposal .sender ∷ v .proposal .kind ∷ setWords (v .proposal .members)
+slotWords v = v .proposal .sender ∷ v .proposal .kind ∷ setWords (v .proposal .members)
 
 abbrev pub slotNumbers : Slot → List ℕ
 slotNumbers v = v .proposal .start ∷ v .proposal .number ∷ v .proposal .used
@@ -144,26 +147,31 @@ module _ {A : Type 0} where
 
 unfoldable pub wordsOf : State → List ℕ
 wordsOf s =
-    s .own ∷ kindOf (s .mode) ∷ (setWords (s .net) ++ (setWords (s .view .members) ++ (each slotWords (s .stored)
-    ++ (s .start ∷ s .number ∷ s .view .number
-    ∷ (s .view .starts ++ (s .accepted ++ (s .used ++ each slotNumbers (s .stored))))))))
+    s .own ∷ kindOf (s .mode) ∷ (setWords (s .net) ++ (setWords (s .view .members) ++ (presence s
+    ∷ (each slotWords (s .stored) ++ (s .start ∷ s .number ∷ s .view .number
+    ∷ (s .view .starts ++ (s .accepted ++ (s .used ++ each slotNumbers (s .stored)))))))))
 
--- a row: its length, presence words of 0 or 1, a mode word of 0 to 2
+-- a row: its length, a presence word of sixteen bits, a mode word of 0 to 2
 pub record Row (ws : List ℕ) : Type 0 where
   pub long : length ws ≡ rowLength
-  pub flags : (o : ℕ) → o < 16 → getD ws (slotPlace o) 0 ≤ 1
+  pub present : getD ws presentPlace 0 < 2 ^ 16
   pub mode : getD ws modePlace 0 ≤ 2
 
-abbrev pub areFlags : List ℕ → Bool
-areFlags ws = allb 16 (λ o. leb (getD ws (slotPlace o) 0) 1)
-
 unfoldable pub isRow : List ℕ → Bool
-isRow ws = eqb (length ws) rowLength && leb (getD ws modePlace 0) 2 && areFlags ws
+isRow ws = eqb (length ws) rowLength && leb (getD ws modePlace 0) 2 && ltb (getD ws presentPlace 0) (2 ^ 16)
+
+-- of what is stored for office o, start and proposal number are so low that an event makes none above L of them
+unfoldable pub lowAt : List ℕ → ℕ → Bool
+lowAt ws o = leb (getD ws (numbersPlace o) 0) low && leb (getD ws (numbersPlace o + 1) 0) low
+
+-- and so of every office for which something is stored
+abbrev pub storedLow : List ℕ → Bool
+storedLow ws = allb 16 (λ o. not (has (presence (stateOf ws)) o) || lowAt ws o)
+
+-- no start or proposal number of the first n slots is above a number
+abbrev pub NoneAbove : ℕ → ℕ → List ℕ → Type 0
+NoneAbove b n ws = (o : ℕ) → o < n → (getD ws (numbersPlace o) 0 ≤ b) × (getD ws (numbersPlace o + 1) 0 ≤ b)
 
 -- a row whose state passes check 2
 unfoldable pub soundRow : List ℕ → Bool
 soundRow ws = isRow ws && wellFormed (stateOf ws)
-
--- a row whose numbers are all so low that no event makes one above L
-unfoldable pub lowRow : List ℕ → Bool
-lowRow ws = isRow ws && leb (getD ws ownPlace 0) 15 && allb numbersCount (λ k. leb (getD ws (startPlace + k) 0) low)

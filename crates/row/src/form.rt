@@ -1,22 +1,10 @@
-// Whether words are a row: their length, their presence words and their mode word.
+// Whether words are a row: their length, their mode word and their presence word.
 use crate::layout;
 ghost use mathlib.Core.Path.{_≡_};
-ghost use lib.ListN.{length};
-ghost use Rattle.row.specs.Row.{rowLength, areFlags, isRow};
+ghost use Rattle.row.specs.Row.{isRow};
 
-// The presence words are each 0 or 1.
-fn are_flags(s: &[u32]) -> bool
-    requires { ⌜ length (now s) ≡ rowLength ⌝ }
-    ensures { λ r. ⌜ r ≡ areFlags (now (s .entry)) ⌝ }
-{
-    let mut ok = true;
-    let mut o: usize = 0;
-    while o < 16 {
-        ok = (s[layout::SLOTS + layout::SLOT * o] <= 1) & ok;
-        o += 1;
-    }
-    ok
-}
+// A bit for each of the sixteen offices.
+const PRESENCES: u32 = 65536;
 
 pub fn is_row(s: &[u32]) -> bool
     ensures { λ r. ⌜ r ≡ isRow (now (s .entry)) ⌝ }
@@ -24,5 +12,5 @@ pub fn is_row(s: &[u32]) -> bool
     if s.len() != layout::WORDS {
         return false;
     }
-    (s[layout::MODE] <= 2) & are_flags(s)
+    (s[layout::MODE] <= 2) & (s[layout::PRESENT] < PRESENCES)
 }

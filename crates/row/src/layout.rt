@@ -13,10 +13,13 @@ pub const NET: usize = MODE + 1;
 
 pub const MEMBERS: usize = NET + SET;
 
-// What is stored for an office: present, sender, kind, members.
-pub const SLOTS: usize = MEMBERS + SET;
+// The offices for which a proposal is stored, a bit for each.
+pub const PRESENT: usize = MEMBERS + SET;
 
-pub const KIND: usize = 2;
+// What is stored for an office: sender, kind, members.
+pub const SLOTS: usize = PRESENT + 1;
+
+pub const KIND: usize = 1;
 
 pub const SLOT_MEMBERS: usize = KIND + 1;
 
@@ -45,5 +48,3 @@ pub const STORED_USED: usize = STORED_NUMBER + 1;
 pub const STORED: usize = STORED_USED + 16;
 
 pub const WORDS: usize = STORED_NUMBERS + STORED * 16;
-
-pub const NUMBERS: usize = WORDS - START;

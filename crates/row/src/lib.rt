@@ -10,7 +10,7 @@ mod form;
 // What a row holds.
 mod readers;
 
-// Check 2, and whether the numbers are low.
+// Check 2, and whether the numbers that an event builds on are low.
 pub mod checks;
 
 // Words stored from a place on.
@@ -28,6 +28,7 @@ pub use readers::mode;
 pub use readers::net;
 pub use readers::number;
 pub use readers::own;
+pub use readers::present;
 pub use readers::start;
 pub use readers::stored_kind;
 pub use readers::stored_members;
@@ -37,6 +38,7 @@ pub use readers::stored_start;
 pub use readers::stored_used;
 pub use readers::used;
 pub use readers::view_number;
+use records::numbers::LIMIT;
 
-// Numbers up to this make none above L in one event.
-pub const LOW: u32 = 1_073_741_823;
+// Numbers up to this make none above L in one event, which adds two at most.
+pub const LOW: u32 = LIMIT - 2;

@@ -5,7 +5,7 @@ ghost use mathlib.Core.Path.{_≡_};
 ghost use Prim.Native.Nat.{_+_, _*_, _<_, _≤_};
 ghost use lib.ListN.{length};
 ghost use Rattle.rules.specs.State.{kindOf, storedAt, acceptedAt, usedAt, usedFor};
-ghost use Rattle.row.specs.Row.{word, setLength, Row, stateOf, setAt};
+ghost use Rattle.row.specs.Row.{word, setLength, Row, stateOf, setAt, presence};
 
 pub fn own(s: &[u32]) -> u8
     requires { ⌜ Row (now s) × (stateOf (now s) .own < 16) ⌝ }
@@ -68,7 +68,15 @@ pub fn stored_present(s: &[u32], o: usize) -> bool
     requires { ⌜ Row (now s) × (o < 16) ⌝ }
     ensures { λ r. ⌜ r ≡ storedAt (stateOf (now (s .entry))) o .present ⌝ }
 {
-    s[layout::SLOTS + layout::SLOT * o] != 0
+    (s[layout::PRESENT] >> (o as u32)) & 1 == 1
+}
+
+// The offices for which a proposal is stored.
+pub fn present(s: &[u32]) -> u16
+    requires { ⌜ Row (now s) ⌝ }
+    ensures { λ r. ⌜ r ≡ presence (stateOf (now (s .entry))) ⌝ }
+{
+    s[layout::PRESENT] as u16
 }
 
 pub fn stored_kind(s: &[u32], o: usize) -> u32

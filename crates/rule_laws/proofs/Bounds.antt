@@ -1,5 +1,5 @@
 -- How far an event moves the numbers: a start number by one, a proposal number by two, a view number two above the
--- starts. So where no number is above 2^30 - 1, no event makes one above L.
+-- starts. So where none of these is above L - 2, no event makes one above L.
 use mathlib.Core.Path.{_≡_, refl}
 use mathlib.Core.Bool.{true}
 use Prim.Native.Nat.{ℕ, _+_, _≤_, _<_}

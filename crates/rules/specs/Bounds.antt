@@ -1,7 +1,8 @@
 -- Bounds on the numbers of a state: start numbers of at most a and proposal numbers of at most b.
 use mathlib.Core.Path.{_≡_}
 use mathlib.Core.Bool.{true}
-use Prim.Native.Nat.{ℕ, _≤_, _<_}
+use Prim.Native.Nat.{ℕ, _-_, _≤_, _<_}
+use Rattle.records.specs.Numbers.{limit}
 use Rattle.rules.specs.State.{Slot, State, storedAt}
 
 -- of a slot, where something is stored
@@ -17,4 +18,4 @@ pub record Capped (a b : ℕ) (s : State) : Type 0 where
 
 -- where no number is above this, no event makes one above L
 abbrev pub low : ℕ
-low = 1_073_741_823
+low = limit - 2

@@ -6,3 +6,5 @@ pub mod OfficeLaws
 pub mod Counts
 mod Gathering
 mod OfficeBits
+-- Loops of callers through a set of offices.
+pub mod OfficeLoops

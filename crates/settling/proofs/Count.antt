@@ -43,7 +43,7 @@ module _ (A : ℕ) (w : List Item → ℕ) where
   unfolding total
   total-row link me row h =
       let e = sum-one 16 (λ i. rowOf i (upd link me row i)) (λ i. rowOf i (link i)) me h
-      (λ k n. ap (rowOf k) (upd-other link me row k n)) in
+      (λ k lt n. ap (rowOf k) (upd-other link me row k n)) in
       let a : rowOf me (upd link me row me) ≡ rowOf me row = ap (rowOf me) (upd-same link me row) in
       omega arith
 
@@ -55,7 +55,7 @@ module _ (A : ℕ) (w : List Item → ℕ) where
       let a = total-row link i (upd (link i) j l) hi in
       let term : ℕ → List Item → ℕ = λ k x. ifb (between A i k) (w x) 0 in
       let b = sum-one 16 (λ k. term k (upd (link i) j l k)) (λ k. term k (link i k)) j hj
-      (λ k n. ap (term k) (upd-other (link i) j l k n)) in
+      (λ k lt n. ap (term k) (upd-other (link i) j l k n)) in
       let c : term j (upd (link i) j l j) ≡ term j l = ap (term j) (upd-same (link i) j l) in
       omega arith
 
@@ -115,7 +115,7 @@ module _ (A : ℕ) where
   unfolding over
   over-one f g me h e =
       let a = sum-one 16 (λ i. ifb (serves A i) (f i) 0) (λ i. ifb (serves A i) (g i) 0) me (h .0)
-      (λ k n. ap (λ (v : ℕ). ifb (serves A k) v 0) (e k n)) in
+      (λ k lt n. ap (λ (v : ℕ). ifb (serves A k) v 0) (e k n)) in
       let b : ifb (serves A me) (f me) 0 ≡ f me = rw (h .1) in
       let c : ifb (serves A me) (g me) 0 ≡ g me = rw (h .1) in
       omega arith

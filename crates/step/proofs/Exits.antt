@@ -1,6 +1,6 @@
 -- The step's result at each of its exits behind checks 2 and 3.
 use mathlib.Core.Path.{_≡_, refl, sym, ap, _∙_}
-use mathlib.Core.Bool.{Bool, true}
+use mathlib.Core.Bool.{true}
 use mathlib.Core.List.{List, []}
 use Prim.Native.Nat.{ℕ, _<_}
 use native.Mathlib.Omega.{arith}
@@ -76,7 +76,7 @@ module _ (ws b : List ℕ) (room : ℕ) where
   row-refused r n h e = on-row r ∙ rw (e, ne-eqb n 0 h)
 
   -- what was read, and the refusal that was found for it: the step's
-  module _ {low : Bool} (ready : Ready ws low room) {n : ℕ} {e : Event} (told : ReadAs b n e) (m : ℕ)
+  module _ (ready : Ready ws room) {n : ℕ} {e : Event} (told : ReadAs b n e) (m : ℕ)
       (found : m ≡ refusalFrom n (stateOf ws) e) where
     row : isRow ws ≡ true
     row = is-row ws (sound-row ws (ready .sound))
@@ -114,7 +114,7 @@ module _ (ws b : List ℕ) (room : ℕ) where
           })
 
   -- a mark that is neither a report's nor a proposal's
-  pub exit-other : {low : Bool} → Ready ws low room → (n : ℕ) → Seen kinds.Other b n → stepRow ws b room ≡ kept n ws
+  pub exit-other : Ready ws room → (n : ℕ) → Seen kinds.Other b n → stepRow ws b room ≡ kept n ws
   exit-other ready n s =
       let e = s .number in
       let four = by-other b (s .is) in

@@ -1,6 +1,6 @@
 -- The step on words: what comes of any words, any bytes and any output.
 use mathlib.Core.Path.{_≡_}
-use mathlib.Core.Bool.{Bool, true}
+use mathlib.Core.Bool.{true}
 use mathlib.Core.List.{List, []}
 use Prim.Native.Nat.{ℕ, _≤_}
 use lib.Dec.{eqb}
@@ -8,7 +8,6 @@ use lib.Seq.{sets}
 use Rattle.laws.specs.Upd.{ifb}
 use Rattle.rules.specs.Rules.{Written}
 use Rattle.rules.specs.Refusals.{fullRoom, Result, stepOf, allBytes, size}
-use Rattle.rules.specs.Bounds.{Capped, low as lowNumber}
 use Rattle.row.specs.Row.{stateOf, wordsOf, isRow, soundRow}
 
 -- the refusal or 0, what was written, the words at the end
@@ -30,6 +29,10 @@ unfoldable pub stepRow : List ℕ → List ℕ → ℕ → RowResult
 stepRow ws b room = ifb (isRow ws) (inRow ws (stepOf (stateOf ws) b room))
     (record { refusal = 2; written = []; words = ws })
 
+-- the number of the current view; words that fail check 2 have none
+unfoldable pub viewNumberRow : List ℕ → ℕ
+viewNumberRow ws = ifb (soundRow ws) (stateOf ws .view .number) 0
+
 -- the answer is the result's, the words are the result's, and the bytes of what was written stand at the front of the
 -- output, whose rest is as it was
 pub record Stepped (q : RowResult) (o : List ℕ) (refusal written : ℕ) (ws′ o′ : List ℕ) : Type 0 where
@@ -39,7 +42,6 @@ pub record Stepped (q : RowResult) (o : List ℕ) (refusal written : ℕ) (ws′
   pub same-out : o′ ≡ sets o 0 (allBytes (q .written))
 
 -- what the step knows of the words once checks 2 and 3 are passed
-pub record Ready (ws : List ℕ) (low : Bool) (room : ℕ) : Type 0 where
+pub record Ready (ws : List ℕ) (room : ℕ) : Type 0 where
   pub sound : soundRow ws ≡ true
-  pub is-low : low ≡ true → Capped lowNumber lowNumber (stateOf ws)
   pub fits : fullRoom ≤ room

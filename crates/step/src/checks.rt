@@ -7,7 +7,7 @@ ghost use mathlib.Core.Path.{_≡_};
 ghost use Prim.Native.Nat.{_<_};
 ghost use Rattle.laws.specs.Checks.{firstOf};
 ghost use Rattle.rules.specs.Refusals.{madeOf, notAbove, usedAhead, proposalChecks};
-ghost use Rattle.row.specs.Row.{Row, stateOf, lowRow};
+ghost use Rattle.row.specs.Row.{Row, stateOf};
 ghost use Rattle.step.specs.Checks.{unready, madeWithin};
 
 // The room that every event has enough of: a start notice and two proposals.
@@ -20,15 +20,12 @@ pub fn office_refusal(office: u8) -> u8
     if office <= 15 { 0 } else { 1 }
 }
 
-// Checks 2 and 3; a row whose numbers are all low was looked at already.
-pub fn unready(state: &[u32], low: bool, room: usize) -> u8
-    requires { ⌜ low ≡ lowRow (now state) ⌝ }
+// Checks 2 and 3.
+pub fn unready(state: &[u32], room: usize) -> u8
     ensures { λ r. ⌜ r ≡ unready (now (state .entry)) room ⌝ }
 {
-    if !low {
-        if !row::checks::is_sound(state) {
-            return 2;
-        }
+    if !row::checks::is_sound(state) {
+        return 2;
     }
     if room < ROOM {
         return 3;
@@ -45,12 +42,12 @@ fn not_above(state: &[u32], p: Proposal) -> bool
 }
 
 // Check 12.
-fn used_ahead(state: &[u32], p: Proposal) -> bool
-    requires { ⌜ Row (now state) × (stateOf (now state) .own < 16) ⌝ }
+fn used_ahead(state: &[u32], p: Proposal, used: &[u32; 16]) -> bool
+    requires { ⌜ Row (now state) × (stateOf (now state) .own < 16) × (now used ≡ p .used) ⌝ }
     ensures { λ r. ⌜ r ≡ usedAhead (stateOf (now (state .entry))) p ⌝ }
 {
     let own = row::own(state) as usize;
-    row::number(state) < p.used[own]
+    row::number(state) < used[own]
 }
 
 // Checks 6 to 10, 19, 11 and 12: the first that applies, 0 where none does.
@@ -58,14 +55,15 @@ pub fn proposal_refusal(state: &[u32], p: Proposal) -> u8
     requires { ⌜ Row (now state) × (stateOf (now state) .own < 16) ⌝ }
     ensures { λ r. ⌜ r ≡ firstOf (proposalChecks (stateOf (now (state .entry))) p) ⌝ }
 {
-    let refusal = form_refusal(row::own(state), p);
+    let used = p.used;
+    let refusal = form_refusal(row::own(state), p, &used);
     if refusal != 0 {
         return refusal;
     }
     if not_above(state, p) {
         return 11;
     }
-    if used_ahead(state, p) {
+    if used_ahead(state, p, &used) {
         return 12;
     }
     0

@@ -1,4 +1,5 @@
-// Checks 6 to 10 and 19, which ask for the own office and the proposal and for no state. The records make check 10.
+// Checks 6 to 10 and 19, which ask for the own office and the proposal and for no state; inner to the layer of the
+// step. The used numbers are lent beside the proposal: to look one of them up by its office would copy all sixteen.
 use records::FAST;
 use records::Proposal;
 use records::SLOW;
@@ -9,7 +10,8 @@ use seats::offices::serves;
 ghost use mathlib.Core.Path.{_≡_};
 ghost use Prim.Native.Nat.{_<_};
 ghost use Rattle.laws.specs.Checks.{firstOf};
-ghost use Rattle.rules.specs.Refusals.{wrongSender, wrongKind, wrongNumber, withoutSeat, usesItself, formChecks};
+ghost use Rattle.rules.specs.Refusals.{wrongSender, wrongKind, wrongNumber, withoutSeat, strayUsed};
+ghost use Rattle.rules.specs.Refusals.{usesItself, formChecks};
 
 // Check 6.
 fn wrong_sender(own: u8, p: Proposal) -> bool
@@ -31,10 +33,10 @@ fn wrong_kind(p: Proposal) -> bool
 }
 
 // Check 8.
-fn wrong_number(p: Proposal) -> bool
+fn wrong_number(p: Proposal, used: &[u32; 16]) -> bool
+    requires { ⌜ now used ≡ p .used ⌝ }
     ensures { λ r. ⌜ r ≡ wrongNumber p ⌝ }
 {
-    let used = p.used;
     (p.start == 0) | (LIMIT < p.start) | (p.number == 0) | (LIMIT < p.number) | above_limit(used)
 }
 
@@ -45,16 +47,25 @@ fn without_seat(own: u8, p: Proposal) -> bool
     !serves(p.members, p.sender) | !serves(p.members, own)
 }
 
+// Check 10.
+fn stray_used(p: Proposal, used: &[u32; 16]) -> bool
+    requires { ⌜ now used ≡ p .used ⌝ }
+    ensures { λ r. ⌜ r ≡ strayUsed p ⌝ }
+{
+    stray_number(p.members, used)
+}
+
 // Check 19.
-fn uses_itself(p: Proposal) -> bool
-    requires { ⌜ p .sender < 16 ⌝ }
+fn uses_itself(p: Proposal, used: &[u32; 16]) -> bool
+    requires { ⌜ (p .sender < 16) × (now used ≡ p .used) ⌝ }
     ensures { λ r. ⌜ r ≡ usesItself p ⌝ }
 {
-    p.number <= p.used[p.sender as usize]
+    p.number <= used[p.sender as usize]
 }
 
 // Checks 6 to 10 and 19: the first that applies, 0 where none does.
-pub fn form_refusal(own: u8, p: Proposal) -> u8
+pub fn form_refusal(own: u8, p: Proposal, used: &[u32; 16]) -> u8
+    requires { ⌜ now used ≡ p .used ⌝ }
     ensures { λ r. ⌜ r ≡ firstOf (formChecks own p) ⌝ }
 {
     if wrong_sender(own, p) {
@@ -63,17 +74,16 @@ pub fn form_refusal(own: u8, p: Proposal) -> u8
     if wrong_kind(p) {
         return 7;
     }
-    if wrong_number(p) {
+    if wrong_number(p, used) {
         return 8;
     }
     if without_seat(own, p) {
         return 9;
     }
-    let used = p.used;
-    if stray_number(p.members, used) {
+    if stray_used(p, used) {
         return 10;
     }
-    if uses_itself(p) {
+    if uses_itself(p, used) {
         return 19;
     }
     0

@@ -1,10 +1,12 @@
-// The step: what comes of any bytes on any row of words, in place. step, fresh and Answer are open; held asks that its
-// caller knows of the row what checks 2 and 3 ask, as the program does.
+// The step: what comes of any bytes on any row of words, in place. step, fresh, current_view_number and Answer are
+// open; held asks that its caller knows of the row what check 2 asks, as the program does, and view_number that it is
+// one.
 use answers::refuse;
 use checks::unready;
 use dispatch::on_record;
+ghost use mathlib.Core.Path.{_≡_};
 ghost use lib.ListN.{length};
-ghost use Rattle.step.specs.Step.{Stepped, stepRow};
+ghost use Rattle.step.specs.Step.{Stepped, stepRow, viewNumberRow};
 
 // What the step answers.
 pub mod answers;
@@ -39,10 +41,19 @@ pub fn step(state: &mut [u32], record: &[u8], out: &mut [u8]) -> Answer
         (now (out .entry))
         (r .refusal) (r .written) (now (state .exit)) (now (out .exit)) ⌝ }
 {
-    let low = row::checks::is_low(state);
-    let refusal = unready(state, low, out.len());
+    let refusal = unready(state, out.len());
     if refusal != 0 {
         return refuse(refusal);
     }
-    on_record(state, low, record, out)
+    on_record(state, record, out)
+}
+
+// The number of the current view, 0 where check 2 fails; the words are only read.
+pub fn current_view_number(state: &[u32]) -> u32
+    ensures { λ r. ⌜ r ≡ viewNumberRow (now (state .entry)) ⌝ }
+{
+    if row::checks::is_sound(state) {
+        return row::view_number(state);
+    }
+    0
 }

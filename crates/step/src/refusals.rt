@@ -1,27 +1,26 @@
-// Checks 6 to 13 and 19 on a record that was read. For 13, where a number is near L, the event is tried on a copy of
-// the row.
+// Checks 6 to 13 and 19 on a record that was read. For 13, where a number that the event builds on is so near to L
+// that it could make one above, the event is tried on a copy of the row.
 use crate::checks::ROOM;
 use crate::checks::made_within;
 use crate::checks::proposal_refusal;
 use records::Proposal;
 use records::Report;
 use row::LOW;
+use row::checks::is_capped;
 ghost use mathlib.Core.Path.{_≡_};
 ghost use mathlib.Core.Bool.{true};
 ghost use Rattle.rules.specs.Rules.{reportRule, proposalRule};
 ghost use Rattle.laws.specs.Checks.{firstOf};
 ghost use Rattle.rules.specs.Refusals.{wellFormed, proposalChecks, aReport, aProposal};
-ghost use Rattle.rules.specs.Bounds.{Capped, low as lowNumber};
 ghost use Rattle.row.specs.Row.{stateOf, soundRow};
 ghost use Rattle.step.specs.Tried.{refusalFrom};
 
-// Check 13 on a report: it makes no number above L. A repeat makes none. Where a number is near L, another report is
-// tried on a copy.
-fn report_within(state: &[u32], low: bool, r: Report) -> bool
-    requires { ⌜ (soundRow (now state) ≡ true) × (low ≡ true → Capped lowNumber lowNumber (stateOf (now state))) ⌝ }
+// Check 13 on a report: it makes no number above L. A repeat makes none.
+fn report_within(state: &[u32], r: Report) -> bool
+    requires { ⌜ soundRow (now state) ≡ true ⌝ }
     ensures { λ t. ⌜ t ≡ wellFormed (reportRule (stateOf (now (state .entry))) r .state) ⌝ }
 {
-    if low {
+    if is_capped(state) {
         return true;
     }
     if act::on_report::is_repeat(state, r) {
@@ -34,13 +33,16 @@ fn report_within(state: &[u32], low: bool, r: Report) -> bool
     made_within(&tried)
 }
 
-// Check 13 on a proposal that passes all others.
-fn proposal_within(state: &[u32], low: bool, p: Proposal) -> bool
-    requires { ⌜ (soundRow (now state) ≡ true) × (low ≡ true → Capped lowNumber lowNumber (stateOf (now state)))
-        × (firstOf (proposalChecks (stateOf (now state)) p) ≡ 0) ⌝ }
+// Check 13 on a proposal that passes all others. One of other members than the net view is only stored.
+fn proposal_within(state: &[u32], p: Proposal) -> bool
+    requires { ⌜ (soundRow (now state) ≡ true) × (firstOf (proposalChecks (stateOf (now state)) p) ≡ 0) ⌝ }
     ensures { λ t. ⌜ t ≡ wellFormed (proposalRule (stateOf (now (state .entry))) p .state) ⌝ }
 {
-    if low & (p.start <= LOW) & (p.number <= LOW) {
+    let members = p.members;
+    if !members.equals(row::net(state)) {
+        return true;
+    }
+    if (p.start <= LOW) & (p.number <= LOW) & is_capped(state) {
         return true;
     }
     let mut tried = [0u32; row::WORDS];
@@ -51,19 +53,19 @@ fn proposal_within(state: &[u32], low: bool, p: Proposal) -> bool
 }
 
 // The refusal of a report whose number by checks 4 and 5 is handed in, 0 where every check passes.
-pub fn report(state: &[u32], low: bool, unread: u8, r: Report) -> u8
-    requires { ⌜ (soundRow (now state) ≡ true) × (low ≡ true → Capped lowNumber lowNumber (stateOf (now state))) ⌝ }
+pub fn report(state: &[u32], unread: u8, r: Report) -> u8
+    requires { ⌜ soundRow (now state) ≡ true ⌝ }
     ensures { λ n. ⌜ n ≡ refusalFrom unread (stateOf (now (state .entry))) (aReport r) ⌝ }
 {
     if unread != 0 {
         return unread;
     }
-    if report_within(state, low, r) { 0 } else { 13 }
+    if report_within(state, r) { 0 } else { 13 }
 }
 
 // The same of a proposal.
-pub fn proposal(state: &[u32], low: bool, unread: u8, p: Proposal) -> u8
-    requires { ⌜ (soundRow (now state) ≡ true) × (low ≡ true → Capped lowNumber lowNumber (stateOf (now state))) ⌝ }
+pub fn proposal(state: &[u32], unread: u8, p: Proposal) -> u8
+    requires { ⌜ soundRow (now state) ≡ true ⌝ }
     ensures { λ n. ⌜ n ≡ refusalFrom unread (stateOf (now (state .entry))) (aProposal p) ⌝ }
 {
     if unread != 0 {
@@ -73,9 +75,5 @@ pub fn proposal(state: &[u32], low: bool, unread: u8, p: Proposal) -> u8
     if refusal != 0 {
         return refusal;
     }
-    if proposal_within(state, low, p) {
-        0
-    } else {
-        13
-    }
+    if proposal_within(state, p) { 0 } else { 13 }
 }

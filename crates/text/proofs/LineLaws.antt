@@ -9,9 +9,11 @@ use lib.ListN.{length, length-append}
 use lib.Dec.{eqb}
 use borrow.Author.Tests.{eqb-true, eqb-false, eq-eqb, ne-eqb}
 use Rattle.laws.specs.Upd.{ifb}
-use Rattle.records.specs.Run.{runCheck, runFirst, runRest}
+use Rattle.laws.proofs.Fin.{true-false}
+use Rattle.records.specs.Run.{runCheck, runSize, runFirst, runRest}
 use Rattle.records.proofs.RunLaws.{Front, nothing, other, short, whole, front, first-rest, rest-shorter}
-use Rattle.records.proofs.Growing.{whole-stays, other-stays, other-check}
+use Rattle.records.proofs.RunLaws.{first-some, first-whole, first-nothing, first-passes, first-alone}
+use Rattle.records.proofs.Growing.{whole-stays, other-stays, other-check, short-check}
 use Rattle.records.specs.Layout.{checkOf}
 use Rattle.rules.specs.State.{State}
 use Rattle.rules.specs.Refusals.{fullRoom, wellFormed, unreadable, refused, madeOf, stepOf}
@@ -26,6 +28,17 @@ module _ (b : List ℕ) where
   pub front-all : (runCheck b ≡ 0 → ⊥) → frontOf b ≡ b
   unfolding frontOf
   front-all n = rw (ne-eqb (runCheck b) 0 n)
+
+  -- the same by the record that is handed back, which is empty where the reading ends
+  pub front-by : 0 < length (runFirst b) → frontOf b ≡ runFirst b
+  front-by h = front-first (first-whole b h)
+
+  pub front-none : length (runFirst b) ≡ 0 → frontOf b ≡ b
+  front-none h = go (eqb (runCheck b) 0) refl
+    where
+      go : (t : Bool) → eqb (runCheck b) 0 ≡ t → frontOf b ≡ b
+      go true e = let z = eqb-true (runCheck b) 0 e in front-first z ∙ first-nothing b h z
+      go false e = front-all (eqb-false (runCheck b) 0 e)
 
   behind-rest : runCheck b ≡ 0 → behindOf b ≡ runRest b
   unfolding behindOf
@@ -118,6 +131,10 @@ stops : goesOn 4 ≡ false
 unfolding goesOn
 stops = refl
 
+stops-short : goesOn 5 ≡ false
+unfolding goesOn
+stops-short = refl
+
 -- What a record is answered is not changed by later bytes f: where it is whole, where no byte comes later, or where
 -- its mark is no record's, of which two bytes tell.
 pub data Decided (w f : List ℕ) : Type 0 where
@@ -155,6 +172,39 @@ module _ (traced : Bool) (s : State) (n : ℕ) (well : wellFormed s ≡ true) (w
       stopped b z =
           let k = other-check b z in
           rw (front-all b (λ y. omega arith)) (step-unread s b well (λ y. omega arith) ∙ rw k)
+
+-- a record after which the program goes on came whole: it passes checks 4 and 5 by itself, and has its line by itself
+module _ (traced : Bool) (s : State) (n : ℕ) (well : wellFormed s ≡ true) (w : List ℕ) (h : 0 < length w)
+    (on : goesOn (answerFor s w .refusal) ≡ true) where
+  abbrev Whole : Type 0
+  Whole = (checkOf (frontOf w) ≡ 0) × ((f : List ℕ) → linesOf traced s n (frontOf w ++ f)
+      ≡ lineFor traced (n + 1) (answerFor s w) ++ linesOf traced (answerFor s w .state) (n + 1) f)
+
+  alone : 0 < runSize w → runCheck w ≡ 0 → Whole
+  alone p e =
+      let a = first-alone w p in
+      let b = front-first w e in
+      let c : frontOf (frontOf w) ≡ frontOf w = rw b (front-first (runFirst w) (a .0) ∙ a .1) in
+      let d : behindOf (frontOf w) ≡ [] = rw b (behind-rest (runFirst w) (a .0) ∙ a .2) in
+      let q = first-passes w p in (
+        rw b q,
+        λ f. decided-text traced s n well (frontOf w) f (rw b (first-some w p)) (entire (rw b (a .0)))
+            ∙ rw (c, on, d),
+      )
+
+  refused-stops : {k : ℕ} → (runCheck w ≡ 0 → ⊥) → checkOf w ≡ k → goesOn k ≡ false → (k ≡ 0 → ⊥) → ⊥
+  refused-stops z c g k =
+      let a : answerFor s w ≡ refused (checkOf w) s = rw (front-all w z) (step-unread s w well (λ y. k (sym c ∙ y))) in
+      true-false _ on (rw (a, c) g)
+
+  pub came-whole : Whole
+  came-whole = go (front w)
+    where
+      go : Front w → Whole
+      go (nothing l e) = absurd (omega arith)
+      go (other l z e) = absurd (refused-stops (λ y. omega arith) (other-check w e) stops (λ y. omega arith))
+      go (short l z e) = absurd (refused-stops (λ y. omega arith) (short-check w e) stops-short (λ y. omega arith))
+      go (whole p l e z) = alone (omega arith) e
 
 -- where no office byte came, the text is that for an office that is none
 pub no-office : (traced : Bool) (f : List ℕ) → textOf traced [] ≡ textOf traced (16 ∷ f)

@@ -7,12 +7,13 @@ use Rattle.feed.proofs.turns.Statement.{statement}
 use Rattle.feed.proofs.turns.Tie as tie
 
 abbrev Inv-loop : tie.InvT-loop
-Inv-loop state₀ input₀ output₀ traced place₀ more₀ failed₀ left₀ state input output place more failed left =
-    Ran traced state₀ state place input output more failed left
+Inv-loop state₀ input₀ output₀ traced place₀ more₀ failed₀ unread₀ left₀ state input output place more failed unread
+    left = Ran traced state₀ state place input output more failed unread left
     × (length state ≡ length state₀) × (length input ≡ length input₀) × (length output ≡ length output₀)
 
 abbrev μ-loop : tie.MeasureT-loop
-μ-loop state₀ input₀ output₀ traced place₀ more₀ failed₀ left₀ state input output place more failed left = left
+μ-loop state₀ input₀ output₀ traced place₀ more₀ failed₀ unread₀ left₀ state input output place more failed unread
+    left = left
 
 loop-holds : tie.Need-loop-holds Inv-loop μ-loop
 loop-holds c = (ran-begun _ _ _ (c .before .before .before .pre .sound), refl, refl, refl)

@@ -1,15 +1,11 @@
 use mathlib.Core.Path.{sym, _∙_}
 use lib.ListN.{length}
-use Rattle.row.proofs.Low.{low-is}
 use Rattle.step.proofs.Readiness.{ready-facts}
 use Rattle.step.proofs.Exits.{refuse-meets}
 use Rattle.step.proofs.Unready.{exit-unready}
 use borrow.Author.Needs.{needs}
 use Rattle.step.proofs.step.Statement.{statement}
 use Rattle.step.proofs.step.Tie as tie
-
-is-low-requires : tie.Need-is-low-requires
-is-low-requires c κs = search needs
 
 unready-requires : tie.Need-unready-requires
 unready-requires c κs = search needs
@@ -22,8 +18,8 @@ same-length c = search needs
 
 returns : tie.Need-returns
 returns c =
-    let c9 = c .before .before .before .before .before .before .before .before .before in
-    let a = c9 .args in
+    let c7 = c .before .before .before .before .before .before .before in
+    let a = c7 .args in
     let n = c .before .before .unready in
     refuse-meets _ (n .result) (a .state .now) (a .out .now) (c .refuse .result)
     (exit-unready (a .state .now) (a .«record» .now) (length (a .out .now)) (n .result) (n .ensures)
@@ -32,13 +28,11 @@ returns c =
 on-record-requires : tie.Need-on-record-requires
 on-record-requires c κs =
     let c3 = c .before .before .before in
-    let c10 = c3 .before .before .before .before .before .before .before in
-    let a = c10 .args in
+    let a = c3 .before .before .before .before .before .args in
     let e = ready-facts (a .state .now) (length (a .out .now))
     (sym (c3 .unready .ensures) ∙ c .before .before .if1 .left) in
     record {
       sound = e .0;
-      is-low = λ t. low-is (a .state .now) (sym (c3 .before .before .is-low .ensures) ∙ t);
       fits = e .1;
     }
 
@@ -55,7 +49,6 @@ pub step-spec : {M : Type 1} → statement M
 step-spec =
     tie.close
     (tie.spec
-    is-low-requires
     unready-requires
     refuse-requires
     same-length

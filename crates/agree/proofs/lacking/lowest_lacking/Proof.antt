@@ -6,10 +6,11 @@ use Prim.Native.Nat.{_<_, _^_}
 use Rattle.row.specs.Row.{stateOf}
 use Rattle.seats.specs.Offices.{lowestOf}
 use Rattle.seats.proofs.OfficeLaws.{offices-lt}
+use Rattle.seats.proofs.OfficeLoops.{low-office, low-less}
 use Rattle.rules.specs.Rules.{agreesIn}
 use Rattle.waiting.specs.Waiting.{lowestLacking}
 use Rattle.agree.specs.Agrees.{lowestIn}
-use Rattle.agree.proofs.Looking.{agrees-by-code, looks-at-all, looked-at-all, is-office, stops, goes-on, fewer}
+use Rattle.agree.proofs.Looking.{agrees-by-code, looks-at-all, looked-at-all, stops, goes-on}
 use Rattle.agree.proofs.lacking.lowest_lacking.Statement.{statement}
 use Rattle.agree.proofs.lacking.lowest_lacking.Tie as tie
 
@@ -21,9 +22,7 @@ abbrev μ-loop : tie.MeasureT-loop
 
 -- the lowest of the offices left is an office
 office : (c : tie.After-lowest Inv-loop μ-loop) → c .lowest .result < 16
-office c =
-    rw (c .lowest .ensures)
-    (is-office (c .before .before .loop .left) (c .before .before .loop .inv .0) (c .before .loop-test .taken))
+office c = low-office (c .before .before .loop .inv .0) (c .before .loop-test .taken) (c .lowest .ensures)
 
 -- whether it has the proposal, by the code's answer
 answer : (c : tie.After-disagrees Inv-loop μ-loop)
@@ -80,17 +79,17 @@ shl-left c = office (c .before .before)
 
 loop-less : tie.Need-loop-less Inv-loop μ-loop
 loop-less c =
-    let l = c .before .before .before .before .loop in
-    rw (c .before .before .lowest .ensures) (fewer (l .left) (l .inv .0) (c .before .before .before .loop-test .taken))
+    let c3 = c .before .before .before in
+    low-less (c3 .before .loop .inv .0) (c3 .loop-test .taken) (c .before .before .lowest .ensures)
 
 loop-again : tie.Need-loop-again Inv-loop μ-loop
 loop-again c =
     let c3 = c .before .before .before in
     let l = c3 .before .loop in
     let some = c3 .loop-test .taken in
-    rw (c .before .before .lowest .ensures) (
-      let f = fewer (l .left) (l .inv .0) some in omega arith,
-      sym (goes-on _ (l .left) (l .inv .0) some (answer (c .before) ∙ ap not (c .if1 .left))) ∙ l .inv .1,
+    let low = c .before .before .lowest .ensures in (
+      let f = low-less (l .inv .0) some low in omega arith,
+      rw low (sym (goes-on _ (l .left) (l .inv .0) some (answer (c .before) ∙ ap not (c .if1 .left))) ∙ l .inv .1),
     )
 
 returns-2 : tie.Need-returns-2 Inv-loop μ-loop

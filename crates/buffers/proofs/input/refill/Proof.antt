@@ -1,8 +1,8 @@
 use mathlib.Core.Path.{_∙_}
-use borrow.Author.Needs.{needs}
 use native.Mathlib.Omega.{arith}
 use lib.ListN.{length-take, length-drop}
 use Rattle.buffers.proofs.Window.{refilled}
+use borrow.Author.Needs.{needs}
 use Rattle.buffers.proofs.input.refill.Statement.{statement}
 use Rattle.buffers.proofs.input.refill.Tie as tie
 
@@ -22,18 +22,18 @@ part-read-some-end : tie.Need-part-read-some-end
 part-read-some-end c = search needs
 
 read-some-requires : tie.Need-read-some-requires
-read-some-requires c κs = simp (length-take, length-drop) (omega arith)
+read-some-requires c κs = search needs
 
-add-t9 : tie.Need-add-t9
-add-t9 c = search needs
+add-t10 : tie.Need-add-t10
+add-t10 c = search needs
 
 same-length : tie.Need-same-length
 same-length c = search needs
 
 returns : tie.Need-returns
 returns c =
-    let r = c .before .before .read-some in
-    let b = c .before .before .before .before .before .before in
+    let r = c .before .before .before .read-some in
+    let b = c .before .before .before .before .before .before .before in
     let f = b .to-front in
     let a = b .before .before .before .before in
     refilled (a .args .p) (a .args .input .now) (f .last .0) (r .last .0) (r .result)
@@ -50,6 +50,6 @@ refill-spec =
     part-read-some-start
     part-read-some-end
     read-some-requires
-    add-t9
+    add-t10
     same-length
     returns)

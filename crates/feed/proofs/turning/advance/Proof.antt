@@ -19,7 +19,7 @@ same-length c = search needs
 
 returns : tie.Need-returns
 returns c =
-    let f = c .before .before in
+    let f = c .before .before .before .before in
     let i = f .before .before in
     let s = i .before .before .before .before in
     let a = s .args in

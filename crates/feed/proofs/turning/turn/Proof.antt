@@ -1,7 +1,7 @@
 use borrow.Author.Needs.{needs}
 use mathlib.Core.Path.{sym, _∙_}
 use Rattle.laws.proofs.Fin.{true-false}
-use Rattle.feed.proofs.TurningLaws.{left-few, sent-ready, turns-on, turns-failed}
+use Rattle.feed.proofs.TurningLaws.{sent-ready, turns-on, turns-failed}
 use Rattle.feed.proofs.turning.turn.Statement.{statement}
 use Rattle.feed.proofs.turning.turn.Tie as tie
 
@@ -12,7 +12,7 @@ emptied-requires : tie.Need-emptied-requires
 emptied-requires c κs = search needs
 
 sub-sent : tie.Need-sub-sent
-sub-sent c = left-few (c .before .before .emptied .ensures)
+sub-sent c = search needs
 
 has-room-requires : tie.Need-has-room-requires
 has-room-requires c κs = search needs
@@ -20,10 +20,11 @@ has-room-requires c κs = search needs
 advance-requires : tie.Need-advance-requires
 advance-requires c κs =
     let t = c .before .before .before in
-    let q = t .before .before .before .before in
+    let q = t .before .before .before .before .before .before in
     let b = q .before .before in
     let s = b .before .before .before .before .before in
-    let r = sent-ready (s .args .input .now) (s .args .output .now) (s .pre) (q .emptied .ensures) in
+    let e = q .emptied in
+    let r = sent-ready (s .args .input .now) (s .args .output .now) (s .pre) (e .ensures) (e .kept .1 .0) in
     (r .0, b .waits .ensures ∙ r .1, sym (t .before .has-room .ensures) ∙ t .if1 .taken)
 
 same-length : tie.Need-same-length
@@ -39,12 +40,12 @@ returns : tie.Need-returns
 returns c =
     let n = c .before .before .before .before .before .before .before in
     let t = n .before .before .before .before in
-    let e = t .before .before .before .before in
+    let e = t .before .before .before .before .before .before in
     let b = e .before .before in
     let s = b .before .before .before .before .before in
     let a = s .args in
     let q = e .emptied .ensures in
-    turns-on (a .p) _ (a .output .now) _ (s .pre .within) (s .pre .lent .output) (q .sent) (q .place)
+    turns-on (a .p) _ (a .output .now) _ (s .pre .within) (s .pre .lent .output) q
     (a .traced) (a .input .now) (b .waits .ensures) (sym (t .before .has-room .ensures) ∙ t .if1 .taken)
     (n .advance .ensures)
 
@@ -56,13 +57,14 @@ same-length-5 c = search needs
 
 returns-2 : tie.Need-returns-2
 returns-2 c =
-    let e = c .before .before .before .before in
+    let e = c .before .before .before .before .before .before in
     let b = e .before .before in
     let s = b .before .before .before .before .before in
     let a = s .args in
     let q = e .emptied .ensures in
-    turns-failed (a .p) _ (a .output .now) _ (s .pre .within) (s .pre .lent .output) (q .sent) (q .place)
-    (a .traced) (a .input .now) (b .waits .ensures) (s .pre .lent .sound)
+    let r = sent-ready (a .input .now) (a .output .now) (s .pre) q (e .emptied .kept .1 .0) in
+    turns-failed (a .p) _ (a .output .now) _ (s .pre .within) (s .pre .lent .output) q
+    (a .traced) (a .input .now) (b .waits .ensures) (s .pre .lent .sound) (r .0 .within)
     (λ z. true-false _ (c .before .has-room .ensures ∙ z) (c .if1 .left))
 
 pub turn-spec : {M : Type 1} → statement M

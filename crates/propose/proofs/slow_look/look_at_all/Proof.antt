@@ -30,10 +30,7 @@ loop-holds c = (omega arith, sym (look-none _))
 
 looked-requires : tie.Need-looked-requires Inv-loop μ-loop
 looked-requires c κs =
-    let c3 = c .before .before .before in
-    let c6 = c3 .before .before .before in
-    let e = c3 .own .ensures in
-    (c6 .pre .0, omega arith, omega (arith, c6 .pre .1))
+    (c .before .before .before .before .before .before .pre .0, omega arith)
 
 add-o : tie.Need-add-o Inv-loop μ-loop
 add-o c = omega arith

@@ -1,7 +1,7 @@
-use borrow.Author.Needs.{needs}
 use mathlib.Core.Path.{sym, _∙_}
 use borrow.Author.Tests.{not-true, not-false}
 use Rattle.propose.proofs.Looks.{looked-empty, looked-there}
+use borrow.Author.Needs.{needs}
 use Rattle.propose.proofs.slow_look.looked.Statement.{statement}
 use Rattle.propose.proofs.slow_look.looked.Tie as tie
 
@@ -23,8 +23,8 @@ equals-requires c κs = search needs
 stored-kind-requires : tie.Need-stored-kind-requires
 stored-kind-requires c κs = search needs
 
-stored-used-requires : tie.Need-stored-used-requires
-stored-used-requires c κs = search needs
+cast-above : tie.Need-cast-above
+cast-above c = search needs
 
 counted-requires : tie.Need-counted-requires
 counted-requires c κs = search needs
@@ -46,23 +46,21 @@ larger-requires-2 c κs = search needs
 
 returns-2 : tie.Need-returns-2
 returns-2 c =
-    let c3 = c .before .before .before in
-    let c7 = c3 .before .before .before .before in
-    let c10 = c7 .before .before .before in
-    let c13 = c10 .before .before .before in
+    let c4 = c .before .before .before .before in
+    let c6 = c4 .before .before in
+    let c10 = c6 .before .before .before .before in
     rw (
       c .larger2 .ensures,
       c .before .counted2 .ensures,
       c .before .before .serves .ensures,
-      c3 .larger .ensures,
-      c3 .before .counted .ensures,
-      c7 .stored-used .ensures,
-      c7 .before .before .stored-kind .ensures,
-      c10 .equals .ensures,
-      c10 .before .stored-members .ensures,
-      c10 .before .before .stored-number .ensures,
+      c .before .before .before .larger .ensures,
+      c4 .counted .ensures,
+      c6 .stored-kind .ensures,
+      c6 .before .equals .ensures,
+      c6 .before .before .stored-members .ensures,
+      c6 .before .before .before .stored-number .ensures,
     )
-    (looked-there _ _ _ _ _ _ (sym (c13 .before .stored-present .ensures) ∙ not-false _ (c13 .if1 .left)))
+    (looked-there _ _ _ _ _ _ (sym (c10 .before .stored-present .ensures) ∙ not-false _ (c10 .if1 .left)))
 
 pub looked-spec : {M : Type 1} → statement M
 looked-spec =
@@ -74,7 +72,7 @@ looked-spec =
     stored-members-requires
     equals-requires
     stored-kind-requires
-    stored-used-requires
+    cast-above
     counted-requires
     larger-requires
     cast-serves

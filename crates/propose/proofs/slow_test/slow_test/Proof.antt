@@ -4,13 +4,12 @@ use mathlib.Core.Path.{_≡_, sym, ap, _∙_}
 use Prim.Native.Nat.{_+_}
 use Rattle.row.specs.Row.{stateOf}
 use Rattle.rules.specs.State.{None, kindOf}
-use Rattle.rules.specs.Rules.{andThen, opens, slowCalled, proposesSlow, slowTest}
+use Rattle.rules.specs.Rules.{andThen, opens, proposesSlow, slowTest}
 use Rattle.event_parts.specs.Bounds.{early, reach}
 use Rattle.event_parts.specs.Did.{Fits}
 use Rattle.event_parts.proofs.Bounding.{bounded-le, opens-bounded}
 use Rattle.event_parts.proofs.Dids.{did-as, did-then, did-none, fits-as, fits-first, fits-second}
-use Rattle.rule_laws.proofs.Modes.{kind-none}
-use Rattle.propose.proofs.Looks.{called-is}
+use Rattle.rule_laws.proofs.Modes.{kind-none, is-busy}
 use Rattle.propose.proofs.SlowCases.{slow-first, slow-made, slow-quiet}
 use Rattle.propose.proofs.slow_test.slow_test.Statement.{statement}
 use Rattle.propose.proofs.slow_test.slow_test.Tie as tie
@@ -31,15 +30,6 @@ room c =
 -- one is
 busy : (c : tie.Else1) → stateOf (c .before .before .before .before .before .args .s .now) .mode ≡ None → ⊥
 busy c e = c .if1 .left (c .before .mode .ensures ∙ ap kindOf e)
-
-called : (c : tie.After-slow-called)
-    → let c8 = c .before .before .before .before .before .before .before .before in
-    c .slow-called .result ≡ slowCalled (stateOf (c8 .args .s .now))
-called c =
-    let c4 = c .before .before .before .before in
-    let c8 = c4 .before .before .before .before in
-    c .slow-called .ensures ∙ called-is (stateOf (c8 .args .s .now)) _ _ (c4 .mode .ensures)
-    (c .before .look-at-all .ensures)
 
 mode-requires : tie.Need-mode-requires
 mode-requires c κs = search needs
@@ -78,25 +68,21 @@ returns c =
     let c14 = c11 .before .before .before in
     did-as slowTest (did-then (c11 .opens .ensures) (c4 .proposes-slow .ensures)) (slow-first _ (idle c14))
 
-look-at-all-requires : tie.Need-look-at-all-requires
-look-at-all-requires c κs = search needs
-
 slow-called-requires : tie.Need-slow-called-requires
-slow-called-requires c κs = search needs
+slow-called-requires c κs =
+    let b = c .before .before .before .before .before .before .pre in
+    (b .0, b .1 .own, is-busy _ (busy (c .before)))
 
-propose-requires : tie.Need-propose-requires
-propose-requires c κs =
-    let c3 = c .before .before .before in
-    let c6 = c3 .before .before .before in
-    let b = c6 .before .before .before .before .before in
+proposes-slow-requires-2 : tie.Need-proposes-slow-requires-2
+proposes-slow-requires-2 c κs =
+    let c5 = c .before .before .before .before .before in
+    let b = c5 .before .before .before .before .before in
     let a = b .args in
-    let e = slow-made (stateOf (a .s .now)) (busy c6) (sym (called c3) ∙ c .before .before .if2 .taken) in (
-      (
-        b .pre .0,
-        bounded-le early _ (b .pre .1) reach (omega arith),
-        fits-as proposesSlow slowTest (a .s .now) (a .out .now) (a .at) e (b .pre .2),
-      ),
-      c3 .before .look-at-all .ensures,
+    let e = slow-made (stateOf (a .s .now)) (busy c5)
+    (sym (c .before .before .before .slow-called .ensures) ∙ c .before .before .if2 .taken) in (
+      b .pre .0,
+      bounded-le early _ (b .pre .1) reach (omega arith),
+      fits-as proposesSlow slowTest (a .s .now) (a .out .now) (a .at) e (b .pre .2),
     )
 
 same-length-3 : tie.Need-same-length-3
@@ -109,16 +95,17 @@ returns-2 : tie.Need-returns-2
 returns-2 c =
     let c4 = c .before .before .before .before in
     let c7 = c4 .before .before .before in
-    let c11 = c7 .before .before .before .before in
-    did-as slowTest (c4 .propose .ensures) (slow-made _ (busy c11) (sym (called (c7 .before)) ∙ c7 .if2 .taken))
+    did-as slowTest (c4 .proposes-slow2 .ensures)
+    (slow-made _ (busy (c7 .before .before .before)) (sym (c7 .before .slow-called .ensures) ∙ c7 .if2 .taken))
 
 same-length-5 : tie.Need-same-length-5
 same-length-5 c = search needs
 
 returns-3 : tie.Need-returns-3
 returns-3 c =
-    let c9 = c .before .before .before .before .before .before .before .before .before in
-    did-as slowTest (did-none _ _ (c9 .pre .0)) (slow-quiet _ (sym (called (c .before)) ∙ c .if2 .left))
+    let b = c .before .before .before .before .before .before .before .before in
+    did-as slowTest (did-none _ _ (b .pre .0))
+    (slow-quiet _ (sym (c .before .slow-called .ensures) ∙ c .if2 .left))
 
 pub slow-test-spec : {M : Type 1} → statement M
 slow-test-spec =
@@ -130,9 +117,8 @@ slow-test-spec =
     same-length
     same-length-2
     returns
-    look-at-all-requires
     slow-called-requires
-    propose-requires
+    proposes-slow-requires-2
     same-length-3
     same-length-4
     returns-2

@@ -21,8 +21,8 @@ loop-holds c = (omega arith, any-none _)
 mul-above : tie.Need-mul-above Inv-loop μ-loop
 mul-above c = omega arith
 
-array-read-above : tie.Need-array-read-above Inv-loop μ-loop
-array-read-above c = omega arith
+element-copy-out-above : tie.Need-element-copy-out-above Inv-loop μ-loop
+element-copy-out-above c = omega arith
 
 add-o : tie.Need-add-o Inv-loop μ-loop
 add-o c = omega arith
@@ -32,7 +32,7 @@ loop-less c = omega arith
 
 loop-again : tie.Need-loop-again Inv-loop μ-loop
 loop-again c =
-    let l = c .before .loop in
+    let l = c .before .before .loop in
     (omega arith, any-one (l .o) _ (l .above) (l .inv .1))
 
 returns : tie.Need-returns Inv-loop μ-loop
@@ -43,4 +43,4 @@ returns c =
 
 pub above-limit-spec : {M : Type 1} → statement M
 above-limit-spec =
-    tie.close (tie.spec Inv-loop μ-loop loop-holds mul-above array-read-above add-o loop-less loop-again returns)
+    tie.close (tie.spec Inv-loop μ-loop loop-holds mul-above element-copy-out-above add-o loop-less loop-again returns)

@@ -1,28 +1,24 @@
-use mathlib.Core.Path.{_≡_, refl, sym, ap, _∙_}
-use mathlib.Core.Bool.{Bool, true, false, _&&_}
+use mathlib.Core.Path.{_≡_}
+use mathlib.Core.List.{List}
 use Prim.Native.Nat.{ℕ, _+_, _-_, _≤_}
 use native.Mathlib.Omega.{arith}
-use lib.Bits.{bitOr}
-use lib.Dec.{leb}
+use native.Mathlib.Decide.{ℕ-discrete}
+use lib.Bits.{bitOr, or-comm}
 use lib.ListN.{getD}
-use Rattle.laws.specs.Fin.{allb}
-use Rattle.row.specs.Row.{numbersPlace, low}
-use Rattle.laws.proofs.Loops.{all-one}
-use Rattle.row.proofs.Low.{or-low}
+use Rattle.laws.proofs.Bit.{or-above}
+use Rattle.row.specs.Row.{numbersPlace, NoneAbove}
 use Rattle.row.proofs.checks.stored_digits.Statement.{statement}
 use Rattle.row.proofs.checks.stored_digits.Tie as tie
 
 abbrev Inv-loop : tie.InvT-loop
 Inv-loop s all₀ o₀ all o =
-    (o ≤ 16) × (leb all low ≡ allb o
-    (λ i. leb (getD s (numbersPlace i + 1) 0) low && leb (getD s (numbersPlace i) 0) low))
+    (o ≤ 16) × NoneAbove all o s
 
 abbrev μ-loop : tie.MeasureT-loop
 μ-loop s all₀ o₀ all o = 16 - o
 
 loop-holds : tie.Need-loop-holds Inv-loop μ-loop
-unfolding allb
-loop-holds c = (omega arith, refl)
+loop-holds c = (omega arith, λ k h. absurd (omega arith))
 
 mul-at : tie.Need-mul-at Inv-loop μ-loop
 mul-at c = omega arith
@@ -51,31 +47,43 @@ add-o c = omega arith
 loop-less : tie.Need-loop-less Inv-loop μ-loop
 loop-less c = omega arith
 
--- two numbers more
-two-more : (all a b : ℕ) → leb (bitOr (bitOr all a) b) low ≡ leb b low && leb a low && leb all low
-two-more all a b = or-low (bitOr all a) b ∙ ap (λ (t : Bool). leb b low && t) (or-low all a)
-    ∙ assoc (leb b low) (leb a low) (leb all low)
+-- what was at most `all`, a and b are at most the digits of all three
+more : (all a b : ℕ) → (all ≤ bitOr (bitOr all a) b) × (a ≤ bitOr (bitOr all a) b) × (b ≤ bitOr (bitOr all a) b)
+more all a b =
+    let x = or-above a all in
+    let y = or-above all a in
+    let z = or-above (bitOr all a) b in
+    let w = or-above b (bitOr all a) in
+    let u = or-comm a all in
+    let v = or-comm b (bitOr all a) in
+    (omega arith, omega arith, omega arith)
+
+-- one slot more
+next : (s : List ℕ) (all n : ℕ)
+    → NoneAbove all n s
+    → NoneAbove (bitOr (bitOr all (getD s (numbersPlace n) 0)) (getD s (numbersPlace n + 1) 0)) (n + 1) s
+next s all n h k l = go (ℕ-discrete k n)
   where
-    assoc : (x y z : Bool) → x && (y && z) ≡ x && y && z
-    assoc true y z = refl
-    assoc false y z = refl
+    d : ℕ
+    d = bitOr (bitOr all (getD s (numbersPlace n) 0)) (getD s (numbersPlace n + 1) 0)
+
+    m : (all ≤ d) × (getD s (numbersPlace n) 0 ≤ d) × (getD s (numbersPlace n + 1) 0 ≤ d)
+    m = more all (getD s (numbersPlace n) 0) (getD s (numbersPlace n + 1) 0)
+
+    go : Dec (k ≡ n) → (getD s (numbersPlace k) 0 ≤ d) × (getD s (numbersPlace k + 1) 0 ≤ d)
+    go (yes e) = rw e (m .1, m .2)
+    go (no q) = let x = h k (omega arith) in let y = m .0 in (omega (arith, x .0), omega (arith, x .1))
 
 loop-again : tie.Need-loop-again Inv-loop μ-loop
 loop-again c =
     let c3 = c .before .before .before in
     let l = c3 .loop in
-    let s = c3 .before .args .s .now in
-    let a = getD s (numbersPlace (l .o)) 0 in
-    let b = getD s (numbersPlace (l .o) + 1) 0 in (
-      omega arith,
-      two-more (l .all) a b ∙ ap (λ (t : Bool). leb b low && leb a low && t) (l .inv .1) ∙ sym (all-one (l .o) _),
-    )
+    (omega arith, next (c3 .before .args .s .now) (l .all) (l .o) (l .inv .1))
 
 returns : tie.Need-returns Inv-loop μ-loop
 returns c =
     let l = c .before .loop in
-    let e : l .o ≡ 16 = omega arith in
-    l .inv .1 ∙ rw e
+    λ o h. l .inv .1 o (omega arith)
 
 pub stored-digits-spec : {M : Type 1} → statement M
 stored-digits-spec =

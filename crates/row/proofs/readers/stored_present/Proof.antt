@@ -1,29 +1,22 @@
-use mathlib.Core.Path.{sym, ap}
-use Rattle.rules.specs.State.{Slot}
-use Rattle.row.specs.Row.{slotOf}
-use Rattle.row.proofs.Parts.{row-stored}
+use mathlib.Core.Path.{sym, _∙_}
+use Rattle.row.proofs.Presence.{row-present, bit-read}
 use borrow.Author.Needs.{needs}
 use Rattle.row.proofs.readers.stored_present.Statement.{statement}
 use Rattle.row.proofs.readers.stored_present.Tie as tie
 
-mul-result : tie.Need-mul-result
-mul-result c = search needs
-
-add-result : tie.Need-add-result
-add-result c = search needs
-
-mul-result-2 : tie.Need-mul-result-2
-mul-result-2 c = search needs
-
 shared-slice-read-result : tie.Need-shared-slice-read-result
 shared-slice-read-result c = search needs
 
+cast-result : tie.Need-cast-result
+cast-result c = search needs
+
+shr-result : tie.Need-shr-result
+shr-result c = search needs
+
 returns : tie.Need-returns
-unfolding slotOf
 returns c =
     let s = c .before in
-    sym (ap (λ (v : Slot). v .present) (row-stored (s .args .s .now) (s .args .o) (s .pre .1)))
+    bit-read _ (s .args .o) ∙ sym (row-present (s .args .s .now) (s .args .o) (s .pre .1))
 
 pub stored-present-spec : {M : Type 1} → statement M
-stored-present-spec =
-    tie.close (tie.spec mul-result add-result mul-result-2 shared-slice-read-result returns)
+stored-present-spec = tie.close (tie.spec shared-slice-read-result cast-result shr-result returns)

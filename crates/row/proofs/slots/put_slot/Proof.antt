@@ -1,23 +1,21 @@
-use mathlib.Core.Path.{ap, _∙_}
-use mathlib.Core.List.{List, _∷_}
-use Prim.Native.Nat.{ℕ}
-use lib.Seq.{sets}
-use Rattle.row.specs.Row.{numbersPlace}
+use mathlib.Core.Path.{_≡_}
+use lib.ListN.{length, length-map}
+use Rattle.row.proofs.StoreLaws.{filled-changed}
 use borrow.Author.Needs.{needs}
 use Rattle.row.proofs.slots.put_slot.Statement.{statement}
 use Rattle.row.proofs.slots.put_slot.Tie as tie
 
+cast-t7 : tie.Need-cast-t7
+cast-t7 c = search needs
+
 cast-t8 : tie.Need-cast-t8
 cast-t8 c = search needs
 
-cast-t9 : tie.Need-cast-t9
-cast-t9 c = search needs
+cast-t10 : tie.Need-cast-t10
+cast-t10 c = search needs
 
-cast-t11 : tie.Need-cast-t11
-cast-t11 c = search needs
-
-cast-t13 : tie.Need-cast-t13
-cast-t13 c = search needs
+cast-t12 : tie.Need-cast-t12
+cast-t12 c = search needs
 
 mul-put-run : tie.Need-mul-put-run
 mul-put-run c = search needs
@@ -43,22 +41,25 @@ put-numbers-requires c κs = search needs
 same-length : tie.Need-same-length
 same-length c = search needs
 
+used-len : (c : tie.Start) → length (c .args .p .used) ≡ 16
+used-len c = simp length-map at (c .good .1 .1 .0 .1 .1 .1 .1 .1 .1 .1 .0 .1 .0 .1)
+
 returns : tie.Need-returns
 returns c =
     let c6 = c .before .before .before .before .before .before in
     let s = c6 .before .before .before .before .before .before .before .before .before .before in
     let p = s .args .p in
-    c .before .before .put-numbers .ensures
-    ∙ ap (λ (l : List ℕ). sets l (numbersPlace (s .args .o)) (p .start ∷ p .number ∷ p .used)) (c6 .put-run .ensures)
+    rw (c .before .before .put-numbers .ensures, c6 .put-run .ensures)
+    (filled-changed (s .args .s .now) (s .args .o) p (s .pre .0) (s .pre .1) (used-len s))
 
 pub put-slot-spec : {M : Type 1} → statement M
 put-slot-spec =
     tie.close
     (tie.spec
+    cast-t7
     cast-t8
-    cast-t9
-    cast-t11
-    cast-t13
+    cast-t10
+    cast-t12
     mul-put-run
     add-put-run
     slice-aggregate-put-run

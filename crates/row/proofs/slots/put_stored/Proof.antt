@@ -1,13 +1,10 @@
-use mathlib.Core.Path.{_≡_}
-use lib.ListN.{length, length-map}
-use Rattle.rules.specs.State.{keeping}
 use Rattle.row.proofs.StoreLaws.{stored-changed}
 use borrow.Author.Needs.{needs}
 use Rattle.row.proofs.slots.put_stored.Statement.{statement}
 use Rattle.row.proofs.slots.put_stored.Tie as tie
 
-used-len : (c : tie.Start) → length (c .args .p .used) ≡ 16
-used-len c = simp length-map at (c .good .1 .1 .0 .1 .1 .1 .1 .1 .1 .1 .0 .1 .0 .1)
+put-present-requires : tie.Need-put-present-requires
+put-present-requires c κs = search needs
 
 put-slot-requires : tie.Need-put-slot-requires
 put-slot-requires c κs = search needs
@@ -17,9 +14,10 @@ same-length c = search needs
 
 returns : tie.Need-returns
 returns c =
-    let s = c .before .before .before .before .before in
-    rw (c .before .before .put-slot .ensures)
-    (stored-changed (s .args .s .now) (s .args .o) (keeping (s .args .p)) (s .pre .0) (s .pre .1) (used-len s))
+    let c6 = c .before .before .before .before .before .before in
+    let s = c6 .before .before .before in
+    stored-changed (s .args .o) _ (s .args .p) (s .pre .1) (c6 .put-present .ensures)
+    (c .before .before .put-slot .ensures)
 
 pub put-stored-spec : {M : Type 1} → statement M
-put-stored-spec = tie.close (tie.spec put-slot-requires same-length returns)
+put-stored-spec = tie.close (tie.spec put-present-requires put-slot-requires same-length returns)

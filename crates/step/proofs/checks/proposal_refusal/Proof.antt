@@ -12,9 +12,9 @@ use Rattle.step.proofs.checks.proposal_refusal.Tie as tie
 
 -- what checks 6 to 10 and 19 answered, of the state
 told : (c : tie.After-form-refusal)
-    → let a = c .before .before .before .args in
+    → let a = c .before .before .before .before .before .args in
     c .form-refusal .result ≡ firstOf (formChecks (stateOf (a .state .now) .own) (a .p))
-told c = rw (← c .before .own .ensures) (c .form-refusal .ensures)
+told c = rw (← c .before .before .own .ensures) (c .form-refusal .ensures)
 
 own-requires : tie.Need-own-requires
 own-requires c κs = search needs
@@ -27,7 +27,7 @@ returns c = checked-form _ _ _ (told (c .before)) (c .if1 .taken)
 
 not-above-requires : tie.Need-not-above-requires
 not-above-requires c κs =
-    let s = c .before .before .before .before in
+    let s = c .before .before .before .before .before .before in
     (s .pre .0, checked-sender (stateOf (s .args .state .now)) (s .args .p) _ (told (c .before)) (c .if1 .left))
 
 returns-2 : tie.Need-returns-2
@@ -42,7 +42,7 @@ used-ahead-requires c κs = search needs
 
 -- check 11 passed
 above : (c : tie.Else2)
-    → let a = c .before .before .before .before .before .before .args in
+    → let a = c .before .before .before .before .before .before .before .before .args in
     acceptedAt (stateOf (a .state .now)) (a .p .sender) < a .p .number
 unfolding notAbove
 above c = leb-false _ _ (sym (c .before .not-above .ensures) ∙ c .if2 .left)
@@ -50,7 +50,7 @@ above c = leb-false _ _ (sym (c .before .not-above .ensures) ∙ c .if2 .left)
 returns-3 : tie.Need-returns-3
 unfolding usedAhead
 returns-3 c =
-    let n = c .before .before in
+    let n = c .before .before .before in
     let f = n .before .before in
     checked-12 _ _ _ (told (f .before)) (f .if1 .left) (above n)
     (ltb-true _ _ (sym (c .before .used-ahead .ensures) ∙ c .if3 .taken))
@@ -58,7 +58,7 @@ returns-3 c =
 returns-4 : tie.Need-returns-4
 unfolding usedAhead
 returns-4 c =
-    let n = c .before .before in
+    let n = c .before .before .before in
     let f = n .before .before in
     checked-none _ _ _ (told (f .before)) (f .if1 .left) (above n)
     (ltb-false _ _ (sym (c .before .used-ahead .ensures) ∙ c .if3 .left))

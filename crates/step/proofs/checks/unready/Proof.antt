@@ -1,27 +1,22 @@
 use mathlib.Core.Path.{_≡_, sym, _∙_}
 use mathlib.Core.Bool.{true}
-use mathlib.Core.Logic.{⊎-elim}
 use native.Mathlib.Omega.{arith}
 use borrow.Author.Tests.{not-true, not-false}
 use Rattle.row.specs.Row.{soundRow}
-use Rattle.row.proofs.Low.{low-sound}
 use Rattle.step.proofs.Readiness.{unready-2, unready-3, unready-0}
 use borrow.Author.Needs.{needs}
 use Rattle.step.proofs.checks.unready.Statement.{statement}
 use Rattle.step.proofs.checks.unready.Tie as tie
 
--- check 2 passed: the numbers are all low, or the row was looked at
-sound : (c : tie.Joined1) → soundRow (c .before .before .args .state .now) ≡ true
-sound c =
-    ⊎-elim (λ t. sym (t .1 .ensures) ∙ not-false _ (t .2 .left))
-    (λ e. low-sound _ (sym (c .before .before .pre) ∙ not-false _ (e .left)))
-    (c .if1 .came)
+-- check 2 passed
+sound : (c : tie.Else1) → soundRow (c .before .before .before .args .state .now) ≡ true
+sound c = sym (c .before .is-sound .ensures) ∙ not-false _ (c .if1 .left)
 
 is-sound-requires : tie.Need-is-sound-requires
 is-sound-requires c κs = search needs
 
 returns : tie.Need-returns
-returns c = sym (unready-2 _ _ (sym (c .before .is-sound .ensures) ∙ not-true _ (c .if2 .taken)))
+returns c = sym (unready-2 _ _ (sym (c .before .is-sound .ensures) ∙ not-true _ (c .if1 .taken)))
 
 returns-2 : tie.Need-returns-2
 returns-2 c = sym (unready-3 _ _ (sound (c .before)) (omega arith))

@@ -20,8 +20,14 @@ element-copy-out-result c = search needs
 
 returns : tie.Need-returns
 unfolding usedAhead
-returns c = rw (c .before .number .ensures, ← c .before .before .own .ensures)
+returns c =
+    rw (
+      c .before .number .ensures,
+      ← c .before .before .own .ensures,
+      ← c .before .before .before .before .pre .2,
+    )
 
 pub used-ahead-spec : {M : Type 1} → statement M
 used-ahead-spec =
-    tie.close (tie.spec own-requires cast-own number-requires mul-result element-copy-out-result returns)
+    tie.close
+    (tie.spec own-requires cast-own number-requires mul-result element-copy-out-result returns)

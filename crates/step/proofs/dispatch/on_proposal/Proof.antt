@@ -21,7 +21,7 @@ decode-proposal-requires : tie.Need-decode-proposal-requires
 decode-proposal-requires c κs = search needs
 
 proposal-requires : tie.Need-proposal-requires
-proposal-requires c κs = let s = c .before .before .before .before .before in (s .pre .0 .sound, s .pre .0 .is-low)
+proposal-requires c κs = c .before .before .before .before .before .pre .0 .sound
 
 refuse-requires : tie.Need-refuse-requires
 refuse-requires c κs = search needs

@@ -19,7 +19,7 @@ decode-report-requires : tie.Need-decode-report-requires
 decode-report-requires c κs = search needs
 
 report-requires : tie.Need-report-requires
-report-requires c κs = let s = c .before .before .before .before .before in (s .pre .0 .sound, s .pre .0 .is-low)
+report-requires c κs = c .before .before .before .before .before .pre .0 .sound
 
 refuse-requires : tie.Need-refuse-requires
 refuse-requires c κs = search needs

@@ -22,10 +22,8 @@ passed-9 : (c : tie.Else4)
 passed-9 c = sym (c .before .without-seat .ensures) ∙ c .if4 .left
 
 passed-10 : (c : tie.Else5)
-    → strayUsed (c .before .before .before .before .before .before .before .before .before .before .before .args .p)
-    ≡ false
-unfolding strayUsed
-passed-10 c = sym (c .before .stray-number .ensures) ∙ c .if5 .left
+    → strayUsed (c .before .before .before .before .before .before .before .before .before .before .args .p) ≡ false
+passed-10 c = sym (c .before .stray-used .ensures) ∙ c .if5 .left
 
 wrong-sender-requires : tie.Need-wrong-sender-requires
 wrong-sender-requires c κs = search needs
@@ -61,13 +59,12 @@ returns-4 c =
       sym (c .before .without-seat .ensures) ∙ c .if4 .taken,
     )
 
-stray-number-requires : tie.Need-stray-number-requires
-stray-number-requires c κs = search needs
+stray-used-requires : tie.Need-stray-used-requires
+stray-used-requires c κs = search needs
 
 returns-5 : tie.Need-returns-5
-unfolding strayUsed
 returns-5 c =
-    let after9 = c .before .before .before in
+    let after9 = c .before .before in
     let after8 = after9 .before .before in
     let after7 = after8 .before .before in
     rw (
@@ -75,20 +72,20 @@ returns-5 c =
       passed-7 after7,
       passed-8 after8,
       passed-9 after9,
-      sym (c .before .stray-number .ensures) ∙ c .if5 .taken,
+      sym (c .before .stray-used .ensures) ∙ c .if5 .taken,
     )
 
 -- check 6 passed, so the sender is an office
 uses-itself-requires : tie.Need-uses-itself-requires
 uses-itself-requires c κs =
-    let after6 = c .before .before .before .before .before .before .before .before .before in
+    let after6 = c .before .before .before .before .before .before .before .before in
     let a = after6 .before .before .args in
-    sender-office (a .own) (a .p) (passed-6 after6)
+    (sender-office (a .own) (a .p) (passed-6 after6), after6 .before .before .pre)
 
 returns-6 : tie.Need-returns-6
 returns-6 c =
     let after10 = c .before .before in
-    let after9 = after10 .before .before .before in
+    let after9 = after10 .before .before in
     let after8 = after9 .before .before in
     let after7 = after8 .before .before in
     rw (
@@ -103,7 +100,7 @@ returns-6 c =
 returns-7 : tie.Need-returns-7
 returns-7 c =
     let after10 = c .before .before in
-    let after9 = after10 .before .before .before in
+    let after9 = after10 .before .before in
     let after8 = after9 .before .before in
     let after7 = after8 .before .before in
     rw (
@@ -127,7 +124,7 @@ form-refusal-spec =
     returns-3
     without-seat-requires
     returns-4
-    stray-number-requires
+    stray-used-requires
     returns-5
     uses-itself-requires
     returns-6

@@ -1,5 +1,5 @@
-use borrow.Author.Needs.{needs}
 use Rattle.rules.specs.Refusals.{wrongNumber}
+use borrow.Author.Needs.{needs}
 use Rattle.step.proofs.form.wrong_number.Statement.{statement}
 use Rattle.step.proofs.form.wrong_number.Tie as tie
 
@@ -8,7 +8,7 @@ above-limit-requires c κs = search needs
 
 returns : tie.Need-returns
 unfolding wrongNumber
-returns c = rw (c .above-limit .ensures)
+returns c = rw (c .above-limit .ensures, c .before .before .before .before .before .pre)
 
 pub wrong-number-spec : {M : Type 1} → statement M
 wrong-number-spec = tie.close (tie.spec above-limit-requires returns)

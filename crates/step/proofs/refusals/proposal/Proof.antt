@@ -14,7 +14,7 @@ proposal-refusal-requires : tie.Need-proposal-refusal-requires
 proposal-refusal-requires c κs =
     let s = c .before .before in
     let ws = s .args .state .now in
-    (sound-row ws (s .pre .0), well-facts (stateOf ws) (sound-well ws (s .pre .0)) .own)
+    (sound-row ws (s .pre), well-facts (stateOf ws) (sound-well ws (s .pre)) .own)
 
 returns-2 : tie.Need-returns-2
 returns-2 c =
@@ -24,7 +24,7 @@ returns-2 c =
 proposal-within-requires : tie.Need-proposal-within-requires
 proposal-within-requires c κs =
     let s = c .before .before .before .before in
-    (s .pre .0, s .pre .1, sym (c .before .proposal-refusal .ensures) ∙ c .if2 .left)
+    (s .pre, sym (c .before .proposal-refusal .ensures) ∙ c .if2 .left)
 
 returns-3 : tie.Need-returns-3
 returns-3 c =

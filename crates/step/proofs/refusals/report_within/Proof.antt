@@ -14,30 +14,34 @@ use borrow.Author.Needs.{needs}
 use Rattle.step.proofs.refusals.report_within.Statement.{statement}
 use Rattle.step.proofs.refusals.report_within.Tie as tie
 
+is-capped-requires : tie.Need-is-capped-requires
+is-capped-requires c κs = let s = c .before in sound-row (s .args .state .now) (s .pre)
+
 returns : tie.Need-returns
 returns c =
-    let s = c .before .before in
+    let s = c .before .before .before in
     let ws = s .args .state .now in
-    sym (report-stays (stateOf ws) (sound-well ws (s .pre .0)) (s .pre .1 (c .if1 .taken)) (s .args .r))
+    sym (report-stays (stateOf ws) (sound-well ws (s .pre))
+    (c .before .is-capped .ensures (c .if1 .taken)) (s .args .r))
 
 is-repeat-requires : tie.Need-is-repeat-requires
-is-repeat-requires c κs = let s = c .before .before in sound-row (s .args .state .now) (s .pre .0)
+is-repeat-requires c κs = let s = c .before .before .before in sound-row (s .args .state .now) (s .pre)
 
 returns-2 : tie.Need-returns-2
 returns-2 c =
-    let s = c .before .before .before .before in
+    let s = c .before .before .before .before .before in
     let ws = s .args .state .now in
     sym (ap (λ (o : Outcome). wellFormed (o .state))
     (repeat-rule (stateOf ws) (s .args .r) (sym (c .before .is-repeat .ensures) ∙ c .if2 .taken))
-    ∙ sound-well ws (s .pre .0))
+    ∙ sound-well ws (s .pre))
 
 slice-aggregate-copy : tie.Need-slice-aggregate-copy
 slice-aggregate-copy c = search needs
 
 copy-requires : tie.Need-copy-requires
 copy-requires c κs =
-    let s = c .before .before .before .before .before in
-    sym (sound-row (s .args .state .now) (s .pre .0) .long)
+    let s = c .before .before .before .before .before .before in
+    sym (sound-row (s .args .state .now) (s .pre) .long)
 
 slice-aggregate-act-on-change : tie.Need-slice-aggregate-act-on-change
 slice-aggregate-act-on-change c = search needs
@@ -47,10 +51,11 @@ slice-aggregate-act-on-change-2 c = search needs
 
 act-on-change-requires : tie.Need-act-on-change-requires
 act-on-change-requires c κs =
-    let s = c .before .before .before .before .before .before .before .before .before in
+    let c6 = c .before .before .before .before .before .before in
+    let s = c6 .before .before .before .before in
     let ws = s .args .state .now in
     let e = c .before .before .before .copy .ensures in
-    (rw e (sound-row ws (s .pre .0)), rw e (sound-well ws (s .pre .0)), omega arith)
+    (rw e (sound-row ws (s .pre)), rw e (sound-well ws (s .pre)), omega arith)
 
 slice-aggregate-made-within : tie.Need-slice-aggregate-made-within
 slice-aggregate-made-within c = search needs
@@ -64,7 +69,7 @@ returns-3 c =
     let c4 = c .before .before .before .before in
     let c8 = c4 .before .before .before .before in
     let c11 = c8 .before .before .before in
-    let s = c11 .before .before .before in
+    let s = c11 .before .before .before .before in
     let ws = s .args .state .now in
     let r = s .args .r in
     let rule = change-rule (stateOf ws) r (sym (c11 .is-repeat .ensures) ∙ c8 .before .before .if2 .left) in
@@ -73,12 +78,13 @@ returns-3 c =
     ∙ ap (λ (l : List ℕ). changeRule (withNet (stateOf l) (netAfter (stateOf l .net .bits) r)) .state)
     (c8 .copy .ensures)
     ∙ ap (λ (o : Outcome). o .state) (sym rule))
-    ∙ made-is-well (stateOf ws) (aReport r) (sound-well ws (s .pre .0)) refl
+    ∙ made-is-well (stateOf ws) (aReport r) (sound-well ws (s .pre)) refl
 
 pub report-within-spec : {M : Type 1} → statement M
 report-within-spec =
     tie.close
     (tie.spec
+    is-capped-requires
     returns
     is-repeat-requires
     returns-2

@@ -1,11 +1,8 @@
 use borrow.Author.Tests.{not-false}
 use mathlib.Core.Path.{sym}
 use borrow.Author.Needs.{needs}
-use Rattle.feed.proofs.run.Statement.{statement}
-use Rattle.feed.proofs.run.Tie as tie
-
-office-requires : tie.Need-office-requires
-office-requires c κs = search needs
+use Rattle.feed.proofs.open.Statement.{statement}
+use Rattle.feed.proofs.open.Tie as tie
 
 slice-aggregate-make-state : tie.Need-slice-aggregate-make-state
 slice-aggregate-make-state c = search needs
@@ -16,14 +13,14 @@ make-state-requires c κs = search needs
 no-office-requires : tie.Need-no-office-requires
 no-office-requires c κs = search needs
 
-slice-aggregate-write-all : tie.Need-slice-aggregate-write-all
-slice-aggregate-write-all c = search needs
+slice-aggregate-flush : tie.Need-slice-aggregate-flush
+slice-aggregate-flush c = search needs
 
-write-all-requires : tie.Need-write-all-requires
-write-all-requires c κs = search needs
+flush-requires : tie.Need-flush-requires
+flush-requires c κs = search needs
 
-complain-requires : tie.Need-complain-requires
-complain-requires c κs = search needs
+tell-unwritten-requires : tie.Need-tell-unwritten-requires
+tell-unwritten-requires c κs = search needs
 
 returns : tie.Need-returns
 returns c = search needs
@@ -59,17 +56,16 @@ serve-requires c κs =
 returns-3 : tie.Need-returns-3
 returns-3 c = search needs
 
-pub run-spec : {M : Type 1} → statement M
-run-spec =
+pub open-spec : {M : Type 1} → statement M
+open-spec =
     tie.close
     (tie.spec
-    office-requires
     slice-aggregate-make-state
     make-state-requires
     no-office-requires
-    slice-aggregate-write-all
-    write-all-requires
-    complain-requires
+    slice-aggregate-flush
+    flush-requires
+    tell-unwritten-requires
     returns
     returns-2
     large-buffer-requires
