@@ -7,7 +7,7 @@ use lib.Dec.{eqb, ltb}
 use borrow.Author.Tests.{eq-eqb, ne-eqb}
 use Rattle.laws.specs.Fin.{anyb}
 use Rattle.laws.proofs.Fin.{true-false}
-use Rattle.seats.proofs.OfficeLoops.{someOffice}
+use Rattle.seats.specs.Offices.{someOffice}
 use Rattle.seats.specs.declared.SeatSet.{SeatSet}
 use Rattle.rules.specs.State.{Mode, None, Fast, Slow, State, fast, slow, kindOf, storedAt, usedFor}
 use Rattle.rules.specs.Rules.{inSlot, matching, matchingSlow, aboveOwn, usesOwn, calledIn, slowCalled, isNone}

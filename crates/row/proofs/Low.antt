@@ -17,7 +17,7 @@ use Rattle.records.specs.Numbers.{within}
 use Rattle.rules.specs.Refusals.{slotWithin, wellFormed}
 use Rattle.row.specs.Row.{ownPlace, modePlace, presentPlace, startPlace, numberPlace, viewPlace, startsPlace}
 use Rattle.row.specs.Row.{acceptedPlace, usedPlace, numbersPlace, rowLength, sixteenWords, slotOf, stateOf, Row}
-use Rattle.row.specs.Row.{isRow, soundRow, presence, lowAt, storedLow, NoneAbove}
+use Rattle.row.specs.Row.{isRow, soundRow, presence, lowAt, storedLow, cappedRow, NoneAbove}
 use Rattle.row.proofs.Parts.{row-stored}
 use Rattle.row.proofs.Presence.{has-presence}
 
@@ -101,10 +101,8 @@ capped-at ws o h e =
     }
 
 -- the numbers that an event builds on are low
-pub capped-is : (ws : List ℕ) → leb (getD ws startPlace 0) low && leb (getD ws numberPlace 0) low
-    && leb (getD ws viewPlace 0) low && storedLow ws ≡ true
-    → Capped low low (stateOf ws)
-unfolding stateOf slotOf lowAt
+pub capped-is : (ws : List ℕ) → cappedRow ws ≡ true → Capped low low (stateOf ws)
+unfolding cappedRow stateOf slotOf lowAt
 capped-is ws e =
     let a = leb (getD ws startPlace 0) low in
     let b = leb (getD ws numberPlace 0) low in

@@ -6,16 +6,15 @@
 --   90-105 last accepted, 106-121 used numbers,
 --   122 + 18o for office o: start number, proposal number, sixteen used numbers of its stored proposal.
 use mathlib.Core.Path.{_≡_}
-use mathlib.Core.Bool.{Bool, not, _&&_, _||_}
+use mathlib.Core.Bool.{Bool, _&&_}
 use mathlib.Core.List.{List, [], _∷_, _++_}
 use Prim.Native.Nat.{ℕ, zero, suc, _+_, _-_, _*_, _<_, _≤_, _/_, _%_, _^_}
 use lib.ListN.{length, getD}
 use lib.Dec.{eqb, leb, ltb}
-use Rattle.laws.specs.Fin.{allb}
 use Rattle.laws.specs.Tab.{tab}
 use Rattle.seats.specs.declared.SeatSet.{SeatSet}
 use Rattle.seats.specs.Seats.{has}
-use Rattle.seats.specs.Offices.{packed}
+use Rattle.seats.specs.Offices.{packed, everyOffice}
 use Rattle.rules.specs.State.{Mode, None, Fast, Slow, Slot, State, kindOf, storedAt}
 use Rattle.rules.specs.Refusals.{wellFormed}
 use Rattle.rules.specs.Bounds.{low}
@@ -166,7 +165,12 @@ lowAt ws o = leb (getD ws (numbersPlace o) 0) low && leb (getD ws (numbersPlace 
 
 -- and so of every office for which something is stored
 abbrev pub storedLow : List ℕ → Bool
-storedLow ws = allb 16 (λ o. not (has (presence (stateOf ws)) o) || lowAt ws o)
+storedLow ws = everyOffice (presence (stateOf ws)) (lowAt ws)
+
+-- and so of the own start number and proposal number and of the view number: of all that an event builds on
+unfoldable pub cappedRow : List ℕ → Bool
+cappedRow ws = leb (getD ws startPlace 0) low && leb (getD ws numberPlace 0) low && leb (getD ws viewPlace 0) low
+    && storedLow ws
 
 -- no start or proposal number of the first n slots is above a number
 abbrev pub NoneAbove : ℕ → ℕ → List ℕ → Type 0

@@ -13,9 +13,8 @@ ghost use Rattle.laws.specs.Fin.{allb};
 ghost use Rattle.rules.specs.State.{storedAt};
 ghost use Rattle.records.specs.Numbers.{within};
 ghost use Rattle.rules.specs.Refusals.{slotWithin, wellFormed};
-ghost use mathlib.Core.Bool.{true};
-ghost use Rattle.rules.specs.Bounds.{Capped, low};
-ghost use Rattle.row.specs.Row.{Row, stateOf, soundRow, lowAt, storedLow, NoneAbove};
+ghost use Rattle.row.specs.Row.{Row, stateOf, soundRow, lowAt, storedLow, cappedRow};
+ghost use Rattle.row.specs.Row.{NoneAbove};
 
 const LAST_OFFICE: u32 = 15;
 
@@ -36,7 +35,7 @@ pub fn is_sound(s: &[u32]) -> bool
 // stored start and proposal number.
 pub fn is_capped(s: &[u32]) -> bool
     requires { ⌜ Row (now s) ⌝ }
-    ensures { λ r. ⌜ (r ≡ true → Capped low low (stateOf (now (s .entry)))) ⌝ }
+    ensures { λ r. ⌜ r ≡ cappedRow (now (s .entry)) ⌝ }
 {
     (s[layout::START] <= LOW)
         & (s[layout::NUMBER] <= LOW)

@@ -10,12 +10,11 @@ use lib.Dec.{eqb}
 use lib.Bits.{bitAnd, and-le-l}
 use lib.Count.{trailingZeros}
 use borrow.Author.Tests.{eq-eqb, ne-eqb}
-use Rattle.laws.specs.Fin.{allb, anyb}
 use Rattle.laws.proofs.Fin.{true-false, allb-in, anyb-in, none-anyb}
 use Rattle.laws.proofs.Loops.{all-fails}
 use Rattle.laws.proofs.Lowest.{and-less-one}
 use Rattle.seats.specs.Seats.{has}
-use Rattle.seats.specs.Offices.{lowestOf}
+use Rattle.seats.specs.Offices.{lowestOf, everyOffice, someOffice}
 use Rattle.seats.proofs.Laws.{has-and, has-not, has-one, has-empty}
 use Rattle.seats.proofs.Counts.{lowest-at-most, lowest-in, empty-lowest, trailing-office}
 
@@ -26,7 +25,7 @@ dropped left o = bitAnd left (2 ^ 16 - 1 - 1 * 2 ^ o % 2 ^ 16)
 one-bit : (o : ℕ) → o < 16 → 1 * 2 ^ o % 2 ^ 16 ≡ 2 ^ o
 one-bit o h = rw one-mul (mod-eq-of-lt (pow-lt h))
 
-pub has-dropped : (left o k : ℕ) → o < 16 → k < 16 → has (dropped left o) k ≡ has left k && not (eqb k o)
+has-dropped : (left o k : ℕ) → o < 16 → k < 16 → has (dropped left o) k ≡ has left k && not (eqb k o)
 has-dropped left o k h l =
     rw (one-bit o h) (has-and left (2 ^ 16 - 1 - 2 ^ o) k
     ∙ ap (λ (t : Bool). has left k && t) (has-not 16 (2 ^ o) k l (pow-lt h) ∙ ap not (has-one o k)))
@@ -92,14 +91,14 @@ module _ {P : ℕ → Type 0} {all : ℕ} where
     found = λ o h e. absurd (true-false _ e (been-none all o));
   }
 
-  pub seen-end : {left : ℕ} → Seen P all left → left ≡ 0 → (o : ℕ) → o < 16 → has all o ≡ true → P o
+  seen-end : {left : ℕ} → Seen P all left → left ≡ 0 → (o : ℕ) → o < 16 → has all o ≡ true → P o
   seen-end s z o h e = s .found o h (rw z (been-all all o ∙ e))
 
   module _ {left o : ℕ} (s : Seen P all left) (some : left ≡ 0 → ⊥) (low : o ≡ lowestOf left) where
     pub seen-office : o < 16
     seen-office = low-office (s .below) some low
 
-    pub seen-in : has all o ≡ true
+    seen-in : has all o ≡ true
     seen-in = s .within o seen-office (low-in (s .below) some low)
 
     pub seen-less : dropped left o < left
@@ -137,14 +136,8 @@ module _ {P : ℕ → Type 0} {all : ℕ} where
     pub next-less : bitAnd left (left - 1) < left
     next-less = rw (low-next (s .below) some low) seen-less
 
--- a loop that asks whether a test holds of every office of the set, and stops where it fails
-abbrev pub everyOffice : ℕ → (ℕ → Bool) → Bool
-everyOffice all p = allb 16 (λ o. not (has all o) || p o)
-
--- or whether it holds of some, and stops there
-abbrev pub someOffice : ℕ → (ℕ → Bool) → Bool
-someOffice all p = anyb 16 (λ o. has all o && p o)
-
+-- a loop that asks whether a test holds of every office of the set, and stops where it fails; or of some, and stops
+-- there
 module _ (p : ℕ → Bool) {all : ℕ} where
   pub every-end : {left : ℕ} → Seen (λ o. p o ≡ true) all left → left ≡ 0 → everyOffice all p ≡ true
   every-end s z = allb-in 16 _ (λ o h. go o h (has all o) refl)

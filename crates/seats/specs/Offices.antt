@@ -1,8 +1,8 @@
 -- The offices of a set of seats. There are 16 offices, 0 to 15.
-use mathlib.Core.Bool.{Bool, _||_}
+use mathlib.Core.Bool.{Bool, not, _&&_, _||_}
 use Prim.Native.Nat.{ℕ, zero, suc, _+_, _*_, _/_, _^_}
 use lib.Dec.{ltb}
-use Rattle.laws.specs.Fin.{sum}
+use Rattle.laws.specs.Fin.{allb, anyb, sum}
 use Rattle.laws.specs.Lowest.{lowestBelow}
 use Rattle.laws.specs.Upd.{ifb}
 use Rattle.seats.specs.Seats.{has}
@@ -32,6 +32,13 @@ officesOf x = packed 16 (serves x)
 -- the number of the offices of a set: of the sixteen, those with a seat in it
 unfoldable pub countOf : ℕ → ℕ
 countOf x = sum 16 (λ o. ifb (serves x o) 1 0)
+
+-- of the offices of a sixteen-bit set: a test holds of every one, or of some
+abbrev pub everyOffice : ℕ → (ℕ → Bool) → Bool
+everyOffice all p = allb 16 (λ o. not (has all o) || p o)
+
+abbrev pub someOffice : ℕ → (ℕ → Bool) → Bool
+someOffice all p = anyb 16 (λ o. has all o && p o)
 
 -- which offices a set touches, and how many they are
 abbrev pub touched : ℕ → OfficeSet

@@ -11,12 +11,12 @@ use Rattle.rules.specs.State.{State}
 use Rattle.rules.specs.Refusals.{Event, actOf}
 
 unfoldable pub refusalFrom : ℕ → State → Event → ℕ
-refusalFrom unread s e = ifb (eqb unread 0) (actOf s e .refusal) unread
+refusalFrom checked s e = ifb (eqb checked 0) (actOf s e .refusal) checked
 
 -- what the mark of bytes was seen to call for, and their number by checks 4 and 5
-pub record Seen (kind : RecordKind) (b : List ℕ) (unread : ℕ) : Type 0 where
+pub record Seen (kind : RecordKind) (b : List ℕ) (checked : ℕ) : Type 0 where
   pub is : formOf b .kind ≡ kind
-  pub number : unread ≡ checkOf b
+  pub number : checked ≡ checkOf b
 
 abbrev pub SeenReport : List ℕ → ℕ → Type 0
 SeenReport = Seen kinds.Report

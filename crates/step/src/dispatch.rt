@@ -16,13 +16,13 @@ ghost use Rattle.step.specs.Step.{Ready, Stepped, stepRow};
 ghost use Rattle.step.specs.Tried.{SeenReport, SeenProposal};
 
 // A record with a report's mark, whose number by checks 4 and 5 is handed in.
-fn on_report(state: &mut [u32], unread: u8, record: &[u8], out: &mut [u8]) -> Answer
-    requires { ⌜ Ready (now state) (length (now out)) × SeenReport (now «record») unread ⌝ }
+fn on_report(state: &mut [u32], checked: u8, record: &[u8], out: &mut [u8]) -> Answer
+    requires { ⌜ Ready (now state) (length (now out)) × SeenReport (now «record») checked ⌝ }
     ensures { λ r. ⌜ Stepped (stepRow (now (state .entry)) (now («record» .entry)) (length (now (out .entry))))
         (now (out .entry)) (r .refusal) (r .written) (now (state .exit)) (now (out .exit)) ⌝ }
 {
     let report = decode_report(record);
-    let refusal = refusals::report(state, unread, report);
+    let refusal = refusals::report(state, checked, report);
     if refusal != 0 {
         return refuse(refusal);
     }
@@ -30,13 +30,13 @@ fn on_report(state: &mut [u32], unread: u8, record: &[u8], out: &mut [u8]) -> An
 }
 
 // The same with a proposal's mark.
-fn on_proposal(state: &mut [u32], unread: u8, record: &[u8], out: &mut [u8]) -> Answer
-    requires { ⌜ Ready (now state) (length (now out)) × SeenProposal (now «record») unread ⌝ }
+fn on_proposal(state: &mut [u32], checked: u8, record: &[u8], out: &mut [u8]) -> Answer
+    requires { ⌜ Ready (now state) (length (now out)) × SeenProposal (now «record») checked ⌝ }
     ensures { λ r. ⌜ Stepped (stepRow (now (state .entry)) (now («record» .entry)) (length (now (out .entry))))
         (now (out .entry)) (r .refusal) (r .written) (now (state .exit)) (now (out .exit)) ⌝ }
 {
     let proposal = decode_proposal(record);
-    let refusal = refusals::proposal(state, unread, proposal);
+    let refusal = refusals::proposal(state, checked, proposal);
     if refusal != 0 {
         return refuse(refusal);
     }
@@ -52,10 +52,10 @@ pub fn on_record(state: &mut [u32], record: &[u8], out: &mut [u8]) -> Answer
 {
     let form = form_of(record);
     let kind = form.kind;
-    let unread = check_for(form.length, record);
+    let checked = check_for(form.length, record);
     match kind {
-        RecordKind::Report => on_report(state, unread, record, out),
-        RecordKind::Proposal => on_proposal(state, unread, record, out),
-        RecordKind::Other => refuse(unread),
+        RecordKind::Report => on_report(state, checked, record, out),
+        RecordKind::Proposal => on_proposal(state, checked, record, out),
+        RecordKind::Other => refuse(checked),
     }
 }

@@ -53,23 +53,23 @@ fn proposal_within(state: &[u32], p: Proposal) -> bool
 }
 
 // The refusal of a report whose number by checks 4 and 5 is handed in, 0 where every check passes.
-pub fn report(state: &[u32], unread: u8, r: Report) -> u8
+pub fn report(state: &[u32], checked: u8, r: Report) -> u8
     requires { ⌜ soundRow (now state) ≡ true ⌝ }
-    ensures { λ n. ⌜ n ≡ refusalFrom unread (stateOf (now (state .entry))) (aReport r) ⌝ }
+    ensures { λ n. ⌜ n ≡ refusalFrom checked (stateOf (now (state .entry))) (aReport r) ⌝ }
 {
-    if unread != 0 {
-        return unread;
+    if checked != 0 {
+        return checked;
     }
     if report_within(state, r) { 0 } else { 13 }
 }
 
 // The same of a proposal.
-pub fn proposal(state: &[u32], unread: u8, p: Proposal) -> u8
+pub fn proposal(state: &[u32], checked: u8, p: Proposal) -> u8
     requires { ⌜ soundRow (now state) ≡ true ⌝ }
-    ensures { λ n. ⌜ n ≡ refusalFrom unread (stateOf (now (state .entry))) (aProposal p) ⌝ }
+    ensures { λ n. ⌜ n ≡ refusalFrom checked (stateOf (now (state .entry))) (aProposal p) ⌝ }
 {
-    if unread != 0 {
-        return unread;
+    if checked != 0 {
+        return checked;
     }
     let refusal = proposal_refusal(state, p);
     if refusal != 0 {

@@ -1,10 +1,4 @@
-use mathlib.Core.Path.{sym, ap, _∙_}
-use mathlib.Core.Bool.{Bool, _&&_}
-use lib.Dec.{leb}
-use lib.ListN.{getD}
-use Rattle.row.specs.Row.{startPlace, numberPlace, viewPlace}
-use Rattle.rules.specs.Bounds.{low}
-use Rattle.row.proofs.Low.{capped-is}
+use Rattle.row.specs.Row.{cappedRow}
 use borrow.Author.Needs.{needs}
 use Rattle.row.proofs.checks.is_capped.Statement.{statement}
 use Rattle.row.proofs.checks.is_capped.Tie as tie
@@ -22,11 +16,8 @@ is-stored-low-requires : tie.Need-is-stored-low-requires
 is-stored-low-requires c κs = search needs
 
 returns : tie.Need-returns
-returns c e =
-    let c5 = c .before .before .before .before .before in
-    let ws = c5 .args .s .now in
-    capped-is ws (ap (λ (t : Bool). leb (getD ws startPlace 0) low && leb (getD ws numberPlace 0) low
-    && leb (getD ws viewPlace 0) low && t) (sym (c .is-stored-low .ensures)) ∙ e)
+unfolding cappedRow
+returns c = rw (c .is-stored-low .ensures)
 
 pub is-capped-spec : {M : Type 1} → statement M
 is-capped-spec =

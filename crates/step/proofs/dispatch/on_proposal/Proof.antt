@@ -11,10 +11,10 @@ use Rattle.step.proofs.dispatch.on_proposal.Tie as tie
 
 -- what was read
 told : (c : tie.After-decode-proposal) → let s = c .before .before .before .before .args in
-    ReadAs (s .«record» .now) (s .unread) (aProposal (c .decode-proposal .result))
+    ReadAs (s .«record» .now) (s .checked) (aProposal (c .decode-proposal .result))
 told c =
     let s = c .before .before .before .before in
-    proposal-told (s .args .«record» .now) (s .args .unread) (c .decode-proposal .result) (s .pre .1)
+    proposal-told (s .args .«record» .now) (s .args .checked) (c .decode-proposal .result) (s .pre .1)
     (c .decode-proposal .ensures)
 
 decode-proposal-requires : tie.Need-decode-proposal-requires

@@ -9,10 +9,10 @@ use Rattle.step.proofs.dispatch.on_report.Tie as tie
 
 -- what was read
 told : (c : tie.After-decode-report) → let s = c .before .before .before .before .args in
-    ReadAs (s .«record» .now) (s .unread) (aReport (c .decode-report .result))
+    ReadAs (s .«record» .now) (s .checked) (aReport (c .decode-report .result))
 told c =
     let s = c .before .before .before .before in
-    report-told (s .args .«record» .now) (s .args .unread) (c .decode-report .result) (s .pre .1)
+    report-told (s .args .«record» .now) (s .args .checked) (c .decode-report .result) (s .pre .1)
     (c .decode-report .ensures)
 
 decode-report-requires : tie.Need-decode-report-requires

@@ -14,7 +14,7 @@ use Rattle.row.specs.Row.{stateOf}
 use Rattle.step.specs.Checks.{madeWithin}
 use Rattle.step.proofs.Lowness.{other-stays, proposal-stays}
 use Rattle.step.proofs.Within.{made-is-well}
-use Rattle.row.proofs.Low.{sound-well, sound-row}
+use Rattle.row.proofs.Low.{sound-well, sound-row, capped-is}
 use borrow.Author.Needs.{needs}
 use Rattle.step.proofs.refusals.proposal_within.Statement.{statement}
 use Rattle.step.proofs.refusals.proposal_within.Tie as tie
@@ -45,7 +45,7 @@ returns-2 c =
     let b = leb (s .args .p .number) low in
     let both = and-l (a && b) _ (c .if2 .taken) in
     sym (proposal-stays (stateOf ws) (sound-well ws (s .pre .0))
-    (c .before .is-capped .ensures (and-r (a && b) _ (c .if2 .taken))) (s .args .p) (s .pre .1)
+    (capped-is ws (sym (c .before .is-capped .ensures) ∙ and-r (a && b) _ (c .if2 .taken))) (s .args .p) (s .pre .1)
     (leb-true _ _ (and-l a b both)) (leb-true _ _ (and-r a b both)))
 
 slice-aggregate-copy : tie.Need-slice-aggregate-copy

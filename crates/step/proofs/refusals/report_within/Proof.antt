@@ -9,7 +9,7 @@ use Rattle.row.specs.Row.{stateOf}
 use Rattle.step.specs.Checks.{madeWithin}
 use Rattle.step.proofs.Lowness.{report-stays}
 use Rattle.step.proofs.Within.{made-is-well}
-use Rattle.row.proofs.Low.{sound-well, sound-row}
+use Rattle.row.proofs.Low.{sound-well, sound-row, capped-is}
 use borrow.Author.Needs.{needs}
 use Rattle.step.proofs.refusals.report_within.Statement.{statement}
 use Rattle.step.proofs.refusals.report_within.Tie as tie
@@ -22,7 +22,7 @@ returns c =
     let s = c .before .before .before in
     let ws = s .args .state .now in
     sym (report-stays (stateOf ws) (sound-well ws (s .pre))
-    (c .before .is-capped .ensures (c .if1 .taken)) (s .args .r))
+    (capped-is ws (sym (c .before .is-capped .ensures) ∙ c .if1 .taken)) (s .args .r))
 
 is-repeat-requires : tie.Need-is-repeat-requires
 is-repeat-requires c κs = let s = c .before .before .before in sound-row (s .args .state .now) (s .pre)
