@@ -4,6 +4,7 @@ pub mod Tests
 pub mod Recipients
 pub mod Encoded
 pub mod Steps
+pub mod Tables
 pub mod Repeats
 pub mod Walk
 pub mod Ceiling
