@@ -1,6 +1,6 @@
-// The program of document 01 in good plain Rust, what `room` is timed against: the state in place, check 2 on every
-// event, 13 decided before the first change, lines by a small decimal writer. With --cfg unchecked it is without
-// check 2, since the state is its own.
+// The program of document 01 and change request 9 in good plain Rust, what `room` is timed against: eight states in
+// place, check 2 of all eight on every event, 13 decided before the first change, lines by a small decimal writer.
+// With --cfg unchecked it is without check 2, since the states are its own.
 use std::io::{Read, Write};
 const L: u32 = 2_000_000_000;
 const FAST: u8 = 1;
@@ -73,8 +73,10 @@ struct Office {
     used: [u32; 16],
 }
 struct Out {
-    b: [u8; 182],
+    b: [u8; 185],
     n: usize,
+    // of the record at hand
+    room: u8,
 }
 impl Out {
     #[inline(always)]
@@ -90,19 +92,19 @@ impl Out {
         self.n += 64;
     }
     fn notice(&mut self, start: u32, net: u64) {
-        self.put(b"SC");
+        self.put(&[0x53, 0x43, self.room]);
         self.put(&start.to_be_bytes());
         self.put(&net.to_be_bytes());
     }
     fn proposal(&mut self, p: &Proposal) {
-        self.put(&[0x50, 0x52, p.sender, p.kind]);
+        self.put(&[0x50, 0x52, self.room, p.sender, p.kind]);
         self.put(&p.members.to_be_bytes());
         self.put(&p.start.to_be_bytes());
         self.put(&p.number.to_be_bytes());
         self.sixteen(&p.used);
     }
     fn view(&mut self, v: &View) {
-        self.put(b"VW");
+        self.put(&[0x56, 0x57, self.room]);
         self.put(&v.number.to_be_bytes());
         self.put(&v.members.to_be_bytes());
         self.sixteen(&v.starts);
@@ -148,30 +150,6 @@ impl Office {
             bad |= (p.start > L) | (p.number > L) | over(&p.used);
         }
         bad
-    }
-    fn step(&mut self, record: &[u8], room: usize, out: &mut Out) -> u8 {
-        out.n = 0;
-        if cfg!(not(unchecked)) && self.malformed() {
-            return 2;
-        }
-        if room < 182 {
-            return 3;
-        }
-        match record {
-            [0x4e, 0x45, ..] => {
-                if record.len() != 18 {
-                    return 5;
-                }
-                self.report(set(record, 2), set(record, 10), out)
-            }
-            [0x50, 0x52, ..] => {
-                if record.len() != 84 {
-                    return 5;
-                }
-                self.proposal(record, out)
-            }
-            _ => 4,
-        }
     }
     fn report(&mut self, joining: u64, leaving: u64, out: &mut Out) -> u8 {
         let net = (self.net | joining) & !leaving;
@@ -347,17 +325,17 @@ impl Office {
         0
     }
     fn proposal(&mut self, r: &[u8], out: &mut Out) -> u8 {
-        let r: &[u8; 84] = r.try_into().unwrap();
+        let r: &[u8; 85] = r.try_into().unwrap();
         let mut p = Proposal {
-            sender: r[2],
-            kind: r[3],
-            members: set(r, 4),
-            start: number(r, 12),
-            number: number(r, 16),
+            sender: r[3],
+            kind: r[4],
+            members: set(r, 5),
+            start: number(r, 13),
+            number: number(r, 17),
             used: [0; 16],
         };
         for k in 0..16 {
-            p.used[k] = number(r, 20 + 4 * k);
+            p.used[k] = number(r, 21 + 4 * k);
         }
         let sender = p.sender as usize;
         if sender > 15 || sender == self.own {
@@ -453,6 +431,43 @@ impl Office {
     }
 }
 
+struct Table {
+    rooms: [Office; 8],
+}
+impl Table {
+    fn fresh(own: usize) -> Table {
+        Table {
+            rooms: std::array::from_fn(|_| Office::fresh(own)),
+        }
+    }
+    fn step(&mut self, record: &[u8], capacity: usize, out: &mut Out) -> u8 {
+        out.n = 0;
+        if cfg!(not(unchecked)) && self.rooms.iter().any(|office| office.malformed()) {
+            return 2;
+        }
+        if capacity < 185 {
+            return 3;
+        }
+        let length = match record {
+            [0x4e, 0x45, ..] => 19,
+            [0x50, 0x52, ..] => 85,
+            _ => return 4,
+        };
+        if record.len() != length {
+            return 5;
+        }
+        out.room = record[2];
+        let Some(office) = self.rooms.get_mut(record[2] as usize) else {
+            return 20;
+        };
+        if length == 19 {
+            office.report(set(record, 3), set(record, 11), out)
+        } else {
+            office.proposal(record, out)
+        }
+    }
+}
+
 fn decimal(buf: &mut [u8], at: usize, mut n: u64) -> usize {
     let mut t = [0u8; 20];
     let mut k = 20;
@@ -475,7 +490,11 @@ fn main() {
     let (mut at, mut end) = (0, 0);
     let mut text: Vec<u8> = vec![0; 65536];
     let mut filled = 0;
-    let mut out = Out { b: [0; 182], n: 0 };
+    let mut out = Out {
+        b: [0; 185],
+        n: 0,
+        room: 0,
+    };
     macro_rules! refill {
         ($n:expr) => {
             while end - at < $n {
@@ -495,23 +514,27 @@ fn main() {
         stdout.write_all(b"0 1 0 0\n").unwrap();
         return;
     }
-    let mut office = Office::fresh(buf[at] as usize);
+    let mut table = Table::fresh(buf[at] as usize);
     at += 1;
     let mut n = 0u64;
     loop {
-        refill!(84);
+        refill!(85);
         if at == end {
             break;
         }
         let run = &buf[at..end];
         let want = match run {
-            [0x4e, 0x45, ..] => 18,
-            [0x50, 0x52, ..] => 84,
+            [0x4e, 0x45, ..] => 19,
+            [0x50, 0x52, ..] => 85,
             _ => run.len(),
         };
         let record = &run[..want.min(run.len())];
         n += 1;
-        let refusal = office.step(record, 182, &mut out);
+        let refusal = table.step(record, 185, &mut out);
+        let view = match refusal {
+            4 | 5 | 20 => 0,
+            _ => table.rooms[record[2] as usize & 7].view.number,
+        };
         at += record.len();
         if filled > 65536 - 100 {
             stdout.write_all(&text[..filled]).unwrap();
@@ -523,7 +546,7 @@ fn main() {
         text[filled] = b' ';
         filled = decimal(&mut text, filled + 1, out.n as u64);
         text[filled] = b' ';
-        filled = decimal(&mut text, filled + 1, office.view.number as u64);
+        filled = decimal(&mut text, filled + 1, view as u64);
         text[filled] = b'\n';
         filled += 1;
         if refusal == 4 || refusal == 5 {

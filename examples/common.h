@@ -30,6 +30,7 @@ static inline void say_sent(unsigned office, const struct room_sent *s) {
     struct room_view v;
     if (s->to_seats) say_set("  to seats ", room_seats_of(s->members, office), ": ");
     else say_set("  to offices ", room_offices(s->members) & ~(1u << office), ": ");
+    printf("room %u, ", s->room);
     if (room_notice_read(s->bytes, s->length, &n)) {
         printf("start notice %u", n.start);
         say_set(" of ", n.members, "");

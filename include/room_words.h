@@ -25,7 +25,7 @@ static inline const char *room_refusal_text(unsigned refusal) {
     switch (refusal) {
     case ROOM_ACCEPTED: return "accepted";
     case ROOM_REFUSED_OFFICE: return "the office is above 15";
-    case ROOM_REFUSED_STATE: return "the words are no state, or not as many as a state has";
+    case ROOM_REFUSED_STATE: return "the words are no table, or not as many as a table has";
     case ROOM_REFUSED_CAPACITY: return "the output is too short";
     case ROOM_REFUSED_MARK: return "the record has no mark, or one that has no place here";
     case ROOM_REFUSED_LENGTH: return "the record does not have the length of its mark";
@@ -43,6 +43,7 @@ static inline const char *room_refusal_text(unsigned refusal) {
     case ROOM_REFUSED_SHEET: return "the sheet is too long, or its length is no multiple of a record's";
     case ROOM_REFUSED_FILE: return "the file is too long, or a whole record of it is no such mark";
     case ROOM_REFUSED_SELF_USE: return "the proposal claims to have used itself";
+    case ROOM_REFUSED_ROOM: return "the room is above 7";
     default: return "a number that this version does not know";
     }
 }
@@ -75,14 +76,14 @@ enum room_record {
 
 enum room_proposal_kind { ROOM_FAST = 1, ROOM_SLOW = 2 };
 
-struct room_report { uint64_t joining, leaving; };
+struct room_report { uint8_t room; uint64_t joining, leaving; };
 struct room_proposal {
-    uint8_t sender, kind;
+    uint8_t room, sender, kind;
     uint64_t members;
     uint32_t start, number, used[ROOM_OFFICES];
 };
-struct room_notice { uint32_t start; uint64_t members; };
-struct room_view { uint32_t number; uint64_t members; uint32_t starts[ROOM_OFFICES]; };
+struct room_notice { uint8_t room; uint32_t start; uint64_t members; };
+struct room_view { uint8_t room; uint32_t number; uint64_t members; uint32_t starts[ROOM_OFFICES]; };
 struct room_sync { uint8_t seat; uint32_t start, previous; };
 struct room_mark { uint32_t number, again; };
 
@@ -110,6 +111,21 @@ static inline size_t room_record_bytes(enum room_record record) {
     case ROOM_NO_RECORD: break;
     }
     return 0;
+}
+
+/* The room of a report, a proposal, a start notice or a view, where the byte is there: any byte, so it may be above 7.
+ * 256 for all else. Who picks a row, a desk's words or a sheet by it sees first that it is below ROOM_ROOMS. */
+ROOM_CALL static inline unsigned room_record_room(const uint8_t *bytes, size_t length) {
+    switch (length < 3 ? ROOM_NO_RECORD : room_record_of(bytes, length)) {
+    case ROOM_REPORT:
+    case ROOM_PROPOSAL:
+    case ROOM_NOTICE:
+    case ROOM_VIEW: return bytes[2];
+    case ROOM_SYNC:
+    case ROOM_MARK:
+    case ROOM_NO_RECORD: break;
+    }
+    return 256;
 }
 
 /* The two kinds of field: a number in four bytes, a set of seats in eight, most significant byte first. */
@@ -140,8 +156,9 @@ ROOM_CALL static inline int room_is(enum room_record record, const uint8_t *byte
 
 ROOM_CALL static inline int room_report_read(const uint8_t *bytes, size_t length, struct room_report *r) {
     if (!room_is(ROOM_REPORT, bytes, length)) return 0;
-    r->joining = room_get_set(bytes + 2);
-    r->leaving = room_get_set(bytes + 10);
+    r->room = bytes[2];
+    r->joining = room_get_set(bytes + 3);
+    r->leaving = room_get_set(bytes + 11);
     return 1;
 }
 
@@ -149,12 +166,13 @@ ROOM_CALL static inline int room_report_read(const uint8_t *bytes, size_t length
 
 ROOM_CALL static inline int room_proposal_read(const uint8_t *bytes, size_t length, struct room_proposal *p) {
     if (!room_is(ROOM_PROPOSAL, bytes, length)) return 0;
-    p->sender = bytes[2];
-    p->kind = bytes[3];
-    p->members = room_get_set(bytes + 4);
-    p->start = room_get_number(bytes + 12);
-    p->number = room_get_number(bytes + 16);
-    for (int o = 0; o < ROOM_OFFICES; o++) p->used[o] = room_get_number(bytes + 20 + 4 * o);
+    p->room = bytes[2];
+    p->sender = bytes[3];
+    p->kind = bytes[4];
+    p->members = room_get_set(bytes + 5);
+    p->start = room_get_number(bytes + 13);
+    p->number = room_get_number(bytes + 17);
+    for (int o = 0; o < ROOM_OFFICES; o++) p->used[o] = room_get_number(bytes + 21 + 4 * o);
     return 1;
 }
 
@@ -162,19 +180,21 @@ ROOM_CALL static inline uint32_t room_proposal_write(const struct room_proposal 
     if (capacity < ROOM_PROPOSAL_BYTES) return 0;
     out[0] = 'P';
     out[1] = 'R';
-    out[2] = p->sender;
-    out[3] = p->kind;
-    room_put_set(out + 4, p->members);
-    room_put_number(out + 12, p->start);
-    room_put_number(out + 16, p->number);
-    for (int o = 0; o < ROOM_OFFICES; o++) room_put_number(out + 20 + 4 * o, p->used[o]);
+    out[2] = p->room;
+    out[3] = p->sender;
+    out[4] = p->kind;
+    room_put_set(out + 5, p->members);
+    room_put_number(out + 13, p->start);
+    room_put_number(out + 17, p->number);
+    for (int o = 0; o < ROOM_OFFICES; o++) room_put_number(out + 21 + 4 * o, p->used[o]);
     return ROOM_PROPOSAL_BYTES;
 }
 
 ROOM_CALL static inline int room_notice_read(const uint8_t *bytes, size_t length, struct room_notice *n) {
     if (!room_is(ROOM_NOTICE, bytes, length)) return 0;
-    n->start = room_get_number(bytes + 2);
-    n->members = room_get_set(bytes + 6);
+    n->room = bytes[2];
+    n->start = room_get_number(bytes + 3);
+    n->members = room_get_set(bytes + 7);
     return 1;
 }
 
@@ -182,16 +202,18 @@ ROOM_CALL static inline uint32_t room_notice_write(const struct room_notice *n, 
     if (capacity < ROOM_NOTICE_BYTES) return 0;
     out[0] = 'S';
     out[1] = 'C';
-    room_put_number(out + 2, n->start);
-    room_put_set(out + 6, n->members);
+    out[2] = n->room;
+    room_put_number(out + 3, n->start);
+    room_put_set(out + 7, n->members);
     return ROOM_NOTICE_BYTES;
 }
 
 ROOM_CALL static inline int room_view_read(const uint8_t *bytes, size_t length, struct room_view *v) {
     if (!room_is(ROOM_VIEW, bytes, length)) return 0;
-    v->number = room_get_number(bytes + 2);
-    v->members = room_get_set(bytes + 6);
-    for (int o = 0; o < ROOM_OFFICES; o++) v->starts[o] = room_get_number(bytes + 14 + 4 * o);
+    v->room = bytes[2];
+    v->number = room_get_number(bytes + 3);
+    v->members = room_get_set(bytes + 7);
+    for (int o = 0; o < ROOM_OFFICES; o++) v->starts[o] = room_get_number(bytes + 15 + 4 * o);
     return 1;
 }
 
@@ -199,9 +221,10 @@ ROOM_CALL static inline uint32_t room_view_write(const struct room_view *v, uint
     if (capacity < ROOM_VIEW_BYTES) return 0;
     out[0] = 'V';
     out[1] = 'W';
-    room_put_number(out + 2, v->number);
-    room_put_set(out + 6, v->members);
-    for (int o = 0; o < ROOM_OFFICES; o++) room_put_number(out + 14 + 4 * o, v->starts[o]);
+    out[2] = v->room;
+    room_put_number(out + 3, v->number);
+    room_put_set(out + 7, v->members);
+    for (int o = 0; o < ROOM_OFFICES; o++) room_put_number(out + 15 + 4 * o, v->starts[o]);
     return ROOM_VIEW_BYTES;
 }
 
@@ -242,7 +265,7 @@ ROOM_CALL static inline uint32_t room_mark_write(const struct room_mark *m, uint
 /* ---- What room_step wrote, record by record ----
  *
  *     struct room_sent s = room_sent_in(out, room_value(answer));
- *     while (room_next(&s)) .. s.record, s.bytes, s.length, s.members, s.to_seats
+ *     while (room_next(&s)) .. s.record, s.bytes, s.length, s.room, s.members, s.to_seats
  */
 struct room_sent {
     const uint8_t *rest; /* what is still to be taken, and how much */
@@ -250,12 +273,13 @@ struct room_sent {
     enum room_record record; /* ROOM_NOTICE, ROOM_PROPOSAL or ROOM_VIEW */
     const uint8_t *bytes;
     size_t length;
+    uint8_t room; /* any byte; 0 to 7 in what room_step wrote */
     uint64_t members;
     int to_seats; /* 1: to this office's seats in the members; 0: to the other offices of the members */
 };
 
 ROOM_CALL static inline struct room_sent room_sent_in(const uint8_t *out, uint64_t written) {
-    struct room_sent s = {out, (size_t)written, ROOM_NO_RECORD, out, 0, 0, 0};
+    struct room_sent s = {out, (size_t)written, ROOM_NO_RECORD, out, 0, 0, 0, 0};
     return s;
 }
 
@@ -267,11 +291,30 @@ ROOM_CALL static inline int room_next(struct room_sent *s) {
     s->record = record;
     s->bytes = s->rest;
     s->length = length;
+    s->room = s->bytes[2];
     s->to_seats = record != ROOM_PROPOSAL;
-    s->members = room_get_set(s->bytes + (s->to_seats ? 6 : 4));
+    s->members = room_get_set(s->bytes + (s->to_seats ? 7 : 5));
     s->rest += length;
     s->left -= length;
     return 1;
+}
+
+/* ---- The words of a desk: docs/LAYOUT.md ---- */
+
+/* Of ROOM_DESK_WORDS words: the seat; and in a room the last start number, the last view number and whether a change
+ * is open, 0 for a room above 7. */
+ROOM_CALL static inline uint32_t room_desk_seat(const uint32_t *desk) { return desk[0]; }
+
+ROOM_CALL static inline uint32_t room_desk_start(const uint32_t *desk, unsigned room) {
+    return room < ROOM_ROOMS ? desk[1 + 3 * room] : 0;
+}
+
+ROOM_CALL static inline uint32_t room_desk_view(const uint32_t *desk, unsigned room) {
+    return room < ROOM_ROOMS ? desk[2 + 3 * room] : 0;
+}
+
+ROOM_CALL static inline int room_desk_open(const uint32_t *desk, unsigned room) {
+    return room < ROOM_ROOMS && desk[3 + 3 * room] != 0;
 }
 
 #ifdef __cplusplus

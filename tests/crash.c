@@ -1,5 +1,6 @@
-/* Real crashes: a child keeps a real file of high marks, is killed and begins again from its file, some thousands of
- * times. What leaves goes into a pipe; the parent holds all that left, over all rounds of a file, to change request 7.
+/* Real crashes: a child keeps a real file of high marks for the rooms that it serves, two of them or all eight, is
+ * killed and begins again from its file, some thousands of times. What leaves goes into a pipe; the parent holds all
+ * that left, over all rounds of a file, to change request 7, in each room and for the file that they share.
  * A child kills itself after a number of actions, an action being one byte put into the file or one record sent. Those
  * rounds are the same in every run, and what must come is counted in them. Or its parent kills it at a moment, which
  * is another in every run. Children that do one thing wrong must each be caught by the same checks.
@@ -29,25 +30,30 @@
 #define IDLE 64           /* so many events in a row that nothing left after: nothing will */
 
 /* What a child does wrong. */
-enum wrong { NOTHING, RECORD_FIRST, NINE_BYTES, ONCE, OWN_NUMBERS, OLD_MARK, APPENDS, FRESH, OWN_USED };
+enum wrong {
+    NOTHING, RECORD_FIRST, NINE_BYTES, ONCE, OWN_NUMBERS, OLD_MARK, APPENDS, FRESH, OWN_USED, ROOM_0_ONLY, MARK_EACH
+};
 
 /* What every round is held to. */
 enum check {
-    ENDS, WHOLE, RESTARTS, BEGINS, BELOW, MARKS, PROPOSALS, SELF_USES, NOTICES, VIEWS, HEARD, CEILING, CHECKS
+    ENDS, WHOLE, OF_ROOM, RESTARTS, BEGINS, BELOW, MARKS, PROPOSALS, SELF_USES, NOTICES, VIEWS, HEARD, SYNCS, CEILING,
+    CHECKS
 };
 
 static const char *const check_names[CHECKS] = {
     "a child ends by SIGKILL and nothing else",
     "what left is whole records",
+    "what left is of the rooms that the child serves",
     "the file has at most ROOM_FILE_BYTES and room_restart takes it",
-    "room_last_mark and room_restart answer what the file is worth, read by hand",
+    "room_last_mark answers what the file is worth, read by hand, and all eight rooms begin there",
     "every number that left is at most the last mark",
-    "the marks are those that the records which left ask for, and at most one more",
-    "proposal numbers rise over all rounds of a file",
+    "the marks are those that the records of all rooms which left ask for, and at most one more",
+    "proposal numbers of a room rise over all rounds of a file",
     "no proposal claims to have used itself, and none gets 19",
-    "start numbers of notices rise over all rounds of a file",
-    "view numbers rise over all rounds of a file",
-    "the seats of the office accept every notice and view",
+    "start numbers of a room's notices rise over all rounds of a file",
+    "view numbers of a room rise over all rounds of a file",
+    "the desks of the office accept every notice and view",
+    "a desk's sync record has in every room the last numbers that it accepted there",
     "from the mark L nothing leaves and 13 is answered",
 };
 
@@ -76,6 +82,7 @@ struct note {
     uint8_t nth;         /* the marks begun in the answer at hand */
     uint8_t mixed;       /* behind the bytes of the unfinished mark stand some of an older one */
     uint16_t foreign;    /* marks that no own number called for */
+    uint16_t covered;    /* records without a mark, since another room's mark is high enough */
     uint16_t answers[4]; /* whole answers with so many marks, */
     uint16_t twice;      /* with a notice and two proposals, */
     uint16_t viewed;     /* with a notice, a proposal and a view */
@@ -97,14 +104,28 @@ static uint32_t below(uint32_t bound) { return (uint32_t)(draw() % bound); }
 
 static uint64_t seats_of(unsigned office) { return (uint64_t)15 << (SEATS * office); }
 
-/* The child: an office with its file, from its begin to the cut. */
-struct child {
-    const struct plan *plan;
+/* Who is played for a file: an office, and the rooms in which something happens. */
+struct server {
     uint8_t office;
-    uint32_t state[ROOM_STATE_WORDS];
+    uint8_t rooms[ROOM_ROOMS];
+    unsigned served; /* so many of them, from the front */
+};
+
+/* What the child knows of one of its rooms. */
+struct room {
+    uint8_t itself;
     uint64_t net;           /* the net view, by the reports that were accepted */
     uint32_t start, number; /* the last start number and proposal number that it was told to send */
     uint32_t accepted[ROOM_OFFICES];
+    uint32_t called;        /* the last mark that this room called for, or that the file began with */
+};
+
+/* The child: an office with its file, from its begin to the cut. */
+struct child {
+    const struct plan *plan;
+    struct server server;
+    uint32_t table[ROOM_TABLE_WORDS];
+    struct room rooms[ROOM_ROOMS];
     int file, pipe;
     uint32_t last;    /* the last mark */
     size_t place;     /* where the next one belongs */
@@ -153,7 +174,7 @@ static void keep(struct child *c, const uint8_t *mark, size_t from, size_t to) {
 static uint32_t own_number(const uint8_t *record) {
     struct room_proposal p;
     if (!room_proposal_read(record, ROOM_PROPOSAL_BYTES, &p)) {
-        return room_get_number(record + 2);
+        return room_get_number(record + 3);
     }
     return p.start > p.number ? p.start : p.number;
 }
@@ -164,7 +185,7 @@ static void leave(struct child *c, const uint8_t *record, size_t size, const uin
     uint8_t sent[ROOM_PROPOSAL_BYTES];
     memcpy(sent, record, size);
     if (c->plan->wrong == OWN_USED && size == ROOM_PROPOSAL_BYTES) {
-        memcpy(sent + 20 + 4 * c->office, sent + 16, 4);
+        memcpy(sent + 21 + 4 * c->server.office, sent + 17, 4);
     }
     if (mark != NULL) {
         c->note.nth++;
@@ -180,28 +201,30 @@ static void leave(struct child *c, const uint8_t *record, size_t size, const uin
 }
 
 /* What the step wrote, record by record, as the header says. */
-static void send_answer(struct child *c, const uint8_t *out, size_t written) {
+static void send_answer(struct child *c, struct room *r, const uint8_t *out, size_t written) {
     struct room_sent s = room_sent_in(out, written);
     struct room_proposal p;
     struct room_notice n;
     c->note.nth = 0;
     while (room_next(&s)) {
         uint8_t mark[ROOM_MARK_BYTES];
-        uint64_t before = room_mark_before(c->last, s.bytes, s.length + s.left, mark, sizeof mark);
+        uint32_t last = c->plan->wrong == MARK_EACH ? r->called : c->last;
+        uint64_t before = room_mark_before(last, s.bytes, s.length + s.left, mark, sizeof mark);
         uint32_t next = room_before_mark(before);
         if (room_refused(before) || room_before_length(before) != s.length) {
             give_up();
         }
-        bool due = next != c->last, foreign = due && own_number(s.bytes) <= c->last;
+        bool due = next != last, foreign = due && own_number(s.bytes) <= last;
         if ((c->plan->wrong == OWN_NUMBERS && foreign) || (c->plan->wrong == ONCE && s.bytes != out)) {
             due = false;
         }
         c->note.foreign += foreign;
-        c->start = room_notice_read(s.bytes, s.length, &n) ? n.start : c->start;
-        c->number = room_proposal_read(s.bytes, s.length, &p) ? p.number : c->number;
+        c->note.covered += !due && own_number(s.bytes) > r->called;
+        r->start = room_notice_read(s.bytes, s.length, &n) ? n.start : r->start;
+        r->number = room_proposal_read(s.bytes, s.length, &p) ? p.number : r->number;
         leave(c, s.bytes, s.length, due ? mark : NULL, s.left > 0);
         if (due && c->plan->wrong != OLD_MARK) {
-            c->last = next;
+            c->last = r->called = next;
         }
     }
     if (s.left > 0) {
@@ -212,111 +235,125 @@ static void send_answer(struct child *c, const uint8_t *out, size_t written) {
     c->note.viewed += written == ROOM_NOTICE_BYTES + ROOM_PROPOSAL_BYTES + ROOM_VIEW_BYTES;
 }
 
-static unsigned hand(struct child *c, const uint8_t *record, size_t length) {
+static unsigned hand(struct child *c, struct room *r, const uint8_t *record, size_t length) {
     uint8_t out[ROOM_OUTPUT_BYTES];
-    uint32_t answer = room_step(c->state, ROOM_STATE_WORDS, record, length, out, sizeof out);
+    uint32_t answer = room_step(c->table, ROOM_TABLE_WORDS, record, length, out, sizeof out);
     c->note.refused += room_refused(answer) == ROOM_REFUSED_CEILING;
     c->note.self_uses += room_refused(answer) == ROOM_REFUSED_SELF_USE;
     if (room_value(answer) > 0) {
-        send_answer(c, out, room_value(answer));
+        send_answer(c, r, out, room_value(answer));
     }
     return room_refused(answer);
 }
 
 /* Seats of this office, seldom none, and either those of others as they are or of up to two others. */
-static uint64_t some_members(const struct child *c) {
-    uint64_t members = seats_of(c->office) & draw();
+static uint64_t some_members(const struct child *c, const struct room *r) {
+    uint64_t own = seats_of(c->server.office), members = own & draw();
     if (below(2) == 0) {
-        return members | (c->net & ~seats_of(c->office));
+        return members | (r->net & ~own);
     }
     for (uint32_t others = below(3); others > 0; others--) {
-        members |= seats_of((c->office + 1 + below(3)) % ROOM_OFFICES) & draw();
+        members |= seats_of((c->server.office + 1 + below(3)) % ROOM_OFFICES) & draw();
     }
     return members;
 }
 
 /* A report that makes the net view these members. */
-static void hand_report(struct child *c, uint64_t members) {
+static void hand_report(struct child *c, struct room *r, uint64_t members) {
     uint8_t report[ROOM_REPORT_BYTES];
-    if (!hand(c, report, room_report_write(members, c->net & ~members, report, sizeof report))) {
-        c->net = members;
+    if (!hand(c, r, report, room_report_write(r->itself, members, r->net & ~members, report, sizeof report))) {
+        r->net = members;
     }
 }
 
 /* A number that another office may have reached: at the last mark, near the own number, or ahead. */
-static uint32_t some_number(const struct child *c) {
+static uint32_t some_number(const struct child *c, const struct room *r) {
     uint64_t number = (uint64_t)c->last + below(c->plan->reach + 1);
     switch (below(4)) {
     case 0: number = (uint64_t)c->last + (c->plan->reach > 0) - below(3); break;
-    case 1: number = (uint64_t)c->number + below(3); break;
+    case 1: number = (uint64_t)r->number + below(3); break;
     }
     return number == 0 || number > UINT64_MAX - 3 ? 1 : number > L ? L : (uint32_t)number;
 }
 
 /* Now and then it uses the own number, so that proposals cross. */
-static void hand_proposal(struct child *c, unsigned sender, uint8_t kind, uint64_t members, uint32_t start,
-                          uint32_t number) {
+static void hand_proposal(struct child *c, struct room *r, unsigned sender, uint8_t kind, uint64_t members,
+                          uint32_t start, uint32_t number) {
     uint8_t record[ROOM_PROPOSAL_BYTES];
-    struct room_proposal p = {.sender = (uint8_t)sender, .kind = kind, .members = members, .start = start};
-    p.number = number > c->accepted[sender] ? number : c->accepted[sender] + 1;
-    p.used[c->office] = below(4) == 0 ? c->number : 0;
+    struct room_proposal p = {
+        .room = r->itself, .sender = (uint8_t)sender, .kind = kind, .members = members, .start = start};
+    p.number = number > r->accepted[sender] ? number : r->accepted[sender] + 1;
+    p.used[c->server.office] = below(4) == 0 ? r->number : 0;
     p.used[sender] = below(2) == 0 ? p.number - 1 : 0;
-    if (!hand(c, record, room_proposal_write(&p, record, sizeof record))) {
-        c->accepted[sender] = p.number;
+    if (!hand(c, r, record, room_proposal_write(&p, record, sizeof record))) {
+        r->accepted[sender] = p.number;
     }
 }
 
 /* Each other office of the members, seldom one less, proposes them. Slow ones all have one number, as slow agreement
  * asks. */
-static void hand_proposals(struct child *c, uint64_t members) {
+static void hand_proposals(struct child *c, struct room *r, uint64_t members) {
     uint8_t kind = below(3) == 0 ? 2 : 1;
-    uint32_t together = some_number(c);
+    uint32_t together = some_number(c, r);
     for (unsigned o = 0; o < ROOM_OFFICES; o++) {
-        if (o != c->office && (seats_of(o) & members) != 0 && below(8) > 0) {
-            hand_proposal(c, o, kind, members, some_number(c), kind == 2 ? together : some_number(c));
+        if (o != c->server.office && (seats_of(o) & members) != 0 && below(8) > 0) {
+            hand_proposal(c, r, o, kind, members, some_number(c, r), kind == 2 ? together : some_number(c, r));
         }
     }
 }
 
 /* Seats of this office and the next, other than the net view. */
-static uint64_t two_offices(const struct child *c) {
-    uint64_t own = seats_of(c->office), first = own & -own;
-    uint64_t next = seats_of((c->office + 1) % ROOM_OFFICES);
-    return ((c->net ^ first) & own) | first << 1 | (next & 0x1111111111111111);
+static uint64_t two_offices(const struct child *c, const struct room *r) {
+    uint64_t own = seats_of(c->server.office), first = own & -own;
+    uint64_t next = seats_of((c->server.office + 1) % ROOM_OFFICES);
+    return ((r->net ^ first) & own) | first << 1 | (next & 0x1111111111111111);
 }
 
 /* A proposal that is there before the report, and so far ahead that the first answer after a restart has a notice, a
  * proposal and a view with a mark for each. */
-static void leap(struct child *c) {
-    uint64_t members = two_offices(c);
-    hand_proposal(c, (c->office + 1) % ROOM_OFFICES, 1, members, c->last + 3 * MARGIN, c->last + MARGIN / 2 * 3);
-    hand_report(c, members);
+static void leap(struct child *c, struct room *r) {
+    uint64_t members = two_offices(c, r);
+    uint32_t start = c->last + 3 * MARGIN, number = c->last + MARGIN / 2 * 3;
+    hand_proposal(c, r, (c->server.office + 1) % ROOM_OFFICES, 1, members, start, number);
+    hand_report(c, r, members);
 }
 
 /* A view uses a proposal whose number alone is above the last mark; the next own proposal has it as a used number. */
-static void use(struct child *c) {
-    uint64_t members = two_offices(c);
-    hand_report(c, members);
-    hand_proposal(c, (c->office + 1) % ROOM_OFFICES, 1, members, c->start + 1, c->last + MARGIN / 2);
-    hand_report(c, two_offices(c));
+static void use(struct child *c, struct room *r) {
+    uint64_t members = two_offices(c, r);
+    hand_report(c, r, members);
+    hand_proposal(c, r, (c->server.office + 1) % ROOM_OFFICES, 1, members, r->start + 1, c->last + MARGIN / 2);
+    hand_report(c, r, two_offices(c, r));
 }
 
-/* One of the two above, proposals that are there before the report, proposals after it, or a report alone. */
+/* In one of the rooms: one of the two above, proposals that are there before the report, proposals after it, or a
+ * report alone. */
 static void event(struct child *c) {
+    struct room *r = &c->rooms[c->server.rooms[below(c->server.served)]];
     uint32_t kind = below(8);
     if (kind == 0 && c->plan->reach > 0) {
-        leap(c);
+        leap(c, r);
     } else if (kind == 1 && c->plan->reach > 0) {
-        use(c);
+        use(c, r);
     } else if (kind < 4) {
-        uint64_t members = some_members(c);
-        hand_proposals(c, members);
-        hand_report(c, members);
+        uint64_t members = some_members(c, r);
+        hand_proposals(c, r, members);
+        hand_report(c, r, members);
     } else if (kind < 6) {
-        hand_proposals(c, c->net);
+        hand_proposals(c, r, r->net);
     } else {
-        hand_report(c, some_members(c));
+        hand_report(c, r, some_members(c, r));
     }
+}
+
+/* The table with which the office begins: the refusal. Of the rows it is known that that of room 0 comes first. */
+static uint8_t make_table(struct child *c, const uint8_t *bytes, size_t length) {
+    uint32_t fresh[ROOM_TABLE_WORDS];
+    uint8_t made = room_fresh(c->server.office, fresh, ROOM_TABLE_WORDS);
+    uint8_t refusal = room_restart(c->server.office, bytes, length, c->table, ROOM_TABLE_WORDS);
+    size_t kept = c->plan->wrong == FRESH ? 0 : c->plan->wrong == ROOM_0_ONLY ? ROOM_STATE_WORDS : ROOM_TABLE_WORDS;
+    memcpy(c->table + kept, fresh + kept, (ROOM_TABLE_WORDS - kept) * sizeof *fresh);
+    return made != 0 ? made : refusal;
 }
 
 /* The office begins, for the first time or again: the file is all that it has. */
@@ -324,17 +361,15 @@ static void begin(struct child *c) {
     uint8_t bytes[ROOM_FILE_BYTES + 1];
     c->file = open(path, O_RDWR);
     ssize_t got = c->file < 0 ? -1 : read(c->file, bytes, sizeof bytes);
-    if (got < 0) {
+    if (got < 0 || make_table(c, bytes, (size_t)got) != 0) {
         give_up();
     }
     size_t length = (size_t)got;
-    uint8_t refusal = c->plan->wrong == FRESH ? room_fresh(c->office, c->state, ROOM_STATE_WORDS)
-                                              : room_restart(c->office, bytes, length, c->state, ROOM_STATE_WORDS);
-    if (refusal != 0) {
-        give_up();
-    }
     c->last = (uint32_t)room_value(room_last_mark(bytes, length));
-    c->start = c->number = room_view_number(c->state, ROOM_STATE_WORDS);
+    for (uint8_t room = 0; room < ROOM_ROOMS; room++) {
+        uint32_t number = room_view_number(c->table, ROOM_TABLE_WORDS, room);
+        c->rooms[room] = (struct room){.itself = room, .start = number, .number = number, .called = c->last};
+    }
     c->place = length / ROOM_MARK_BYTES * ROOM_MARK_BYTES;
     c->tail = length - c->place;
     if (c->plan->wrong == APPENDS) {
@@ -342,15 +377,16 @@ static void begin(struct child *c) {
     }
 }
 
-static _Noreturn void live(const struct plan *plan, uint8_t office, int pipe, unsigned actions, uint64_t seed) {
+static _Noreturn void live(const struct plan *plan, const struct server *server, unsigned round, int pipe,
+                           unsigned actions, uint64_t seed) {
     static struct child c;
     alarm(60); /* no child outlives a parent that was stopped */
-    c = (struct child){.plan = plan, .office = office, .pipe = pipe, .actions = actions, .note = {.mark = "CU"}};
+    c = (struct child){.plan = plan, .server = *server, .pipe = pipe, .actions = actions, .note = {.mark = "CU"}};
     drawn = seed;
     begin(&c);
     acted(&c, BEFORE_ALL);
     if (plan->pairs > 0) {
-        leap(&c);
+        leap(&c, &c.rooms[server->rooms[round % server->served]]);
     }
     while (c.idle++ < IDLE) {
         event(&c);
@@ -363,21 +399,32 @@ static _Noreturn void live(const struct plan *plan, uint8_t office, int pipe, un
     }
 }
 
+/* The last numbers that a desk accepted in a room. */
+struct heard { uint32_t start, view; };
+
+/* What left of one room: the highest number in a proposal, in a notice and in a view. */
+struct left {
+    uint32_t proposal, start, view;
+    uint32_t called;  /* the last mark that a record of this room called for */
+    bool before, now; /* records of it left in an earlier round of the file, and in this one */
+};
+
 /* The parent: a plan being played, with the file at hand from empty to its end. */
 struct run {
     const struct plan *plan;
     unsigned long *faults; /* of each check */
     unsigned file, round;  /* each from 1 */
-    uint8_t office;
-    uint32_t seats[SEATS][ROOM_SEAT_WORDS];
-    uint32_t proposal, start, view; /* the highest that left in a proposal, a notice, a view */
-    int held;                       /* the file */
+    struct server server;
+    uint32_t desks[SEATS][ROOM_DESK_WORDS];
+    struct heard heard[SEATS][ROOM_ROOMS];
+    struct left left[ROOM_ROOMS];
+    int held;         /* the file */
     uint8_t bytes[ROOM_FILE_BYTES + 1];
     size_t length;
-    uint32_t last;                  /* its last whole mark */
-    uint32_t reached;               /* the mark before the next record that is judged, */
-    size_t next;                    /* and the place of the one behind it */
-    struct note note;               /* of the last round, if its child had time for one */
+    uint32_t last;    /* its last whole mark */
+    uint32_t reached; /* the mark before the next record that is judged, */
+    size_t next;      /* and the place of the one behind it */
+    struct note note; /* of the last round, if its child had time for one */
     bool over;
     /* over all files of the plan */
     unsigned rounds, ended;
@@ -388,7 +435,8 @@ struct run {
 static struct {
     unsigned long torn[ROOM_MARK_BYTES], empty, thousand;
     unsigned long cuts[CUTS], nth[4], mixed;
-    unsigned long answers[4], twice, viewed, foreign;
+    unsigned long answers[4], twice, viewed, foreign, covered;
+    unsigned long rooms[ROOM_ROOMS], both, higher;
     unsigned long proposals, just_below;
     unsigned long ended, full;
 } seen;
@@ -443,41 +491,51 @@ static uint32_t last_by_hand(const uint8_t *bytes, size_t length) {
     return last;
 }
 
-/* A state at a mark: its view number is the mark, and its first proposal has the next number, the next start number
- * and nothing used. Words that are to be fresh are those of room_fresh. */
-static bool begins_at(uint32_t *state, uint8_t office, uint32_t mark) {
-    uint32_t fresh[ROOM_STATE_WORDS];
+/* A room of a table at a mark: its view number is the mark, and its first proposal has the next number, the next start
+ * number and nothing used. */
+static bool room_begins_at(uint32_t *table, uint8_t room, uint8_t office, uint32_t mark) {
     uint8_t report[ROOM_REPORT_BYTES], out[ROOM_OUTPUT_BYTES], expected[ROOM_NOTICE_BYTES + ROOM_PROPOSAL_BYTES];
     uint64_t members = seats_of(office) | seats_of((office + 1u) % ROOM_OFFICES);
-    struct room_notice n = {mark + 1, members};
-    struct room_proposal p = {office, ROOM_FAST, members, mark + 1, mark + 1, {0}};
-    size_t reported = room_report_write(members, 0, report, sizeof report);
+    struct room_notice n = {.room = room, .start = mark + 1, .members = members};
+    struct room_proposal p = {.room = room, .sender = office, .kind = ROOM_FAST, .members = members};
+    p.start = p.number = mark + 1;
+    size_t reported = room_report_write(room, members, 0, report, sizeof report);
     size_t length = room_notice_write(&n, expected, sizeof expected);
     length += room_proposal_write(&p, expected + length, sizeof expected - length);
-    if (mark == 0 && (room_fresh(office, fresh, ROOM_STATE_WORDS) || memcmp(state, fresh, sizeof fresh) != 0)) {
-        return false;
-    }
-    bool numbered = room_view_number(state, ROOM_STATE_WORDS) == mark;
-    uint32_t answer = room_step(state, ROOM_STATE_WORDS, report, reported, out, sizeof out);
+    bool numbered = room_view_number(table, ROOM_TABLE_WORDS, room) == mark;
+    uint32_t answer = room_step(table, ROOM_TABLE_WORDS, report, reported, out, sizeof out);
     return numbered && (mark == L ? answer == ROOM_REFUSED_CEILING
                                   : answer == 256 * length && memcmp(out, expected, length) == 0);
 }
 
+/* All rooms, one after the other, on one table. Words that are to be fresh are those of room_fresh. */
+static bool begins_at(uint32_t *table, uint8_t office, uint32_t mark) {
+    uint32_t fresh[ROOM_TABLE_WORDS];
+    if (mark == 0 && (room_fresh(office, fresh, ROOM_TABLE_WORDS) || memcmp(table, fresh, sizeof fresh) != 0)) {
+        return false;
+    }
+    bool all = true;
+    for (uint8_t room = 0; room < ROOM_ROOMS; room++) {
+        all &= room_begins_at(table, room, office, mark);
+    }
+    return all;
+}
+
 /* The file as a round left it. Of a wrong child too the calls must answer what the file is worth. */
 static void judge_file(struct run *run) {
-    uint32_t made[ROOM_STATE_WORDS];
+    uint32_t made[ROOM_TABLE_WORDS];
     ssize_t got = pread(run->held, run->bytes, sizeof run->bytes, 0);
     run->length = got < 0 ? 0 : (size_t)got;
     run->last = last_by_hand(run->bytes, run->length);
     bool sound = got >= 0 && run->length <= ROOM_FILE_BYTES && run->last <= L;
     memset(made, 0xAA, sizeof made);
     uint64_t mark = room_last_mark(run->bytes, run->length);
-    uint8_t refusal = room_restart(run->office, run->bytes, run->length, made, ROOM_STATE_WORDS);
+    uint8_t refusal = room_restart(run->server.office, run->bytes, run->length, made, ROOM_TABLE_WORDS);
     if (!sound || refusal != 0) {
         fault(run, RESTARTS, refusal, (uint32_t)run->length);
     }
     if (refusal != (sound ? 0 : ROOM_REFUSED_FILE) || mark != (sound ? 256ull * run->last : ROOM_REFUSED_FILE) ||
-        !begins_at(made, sound ? run->office : 0, sound ? run->last : 0)) {
+        !begins_at(made, sound ? run->server.office : 0, sound ? run->last : 0)) {
         fault(run, BEGINS, (uint32_t)room_value(mark), run->last);
     }
 }
@@ -489,22 +547,40 @@ static void rises(struct run *run, enum check check, uint32_t *highest, uint32_t
     *highest = number > *highest ? number : *highest;
 }
 
-/* The seats that are among the members hear the notice or view. They never begin again. */
+static void judge_syncs(struct run *run, unsigned s) {
+    for (uint8_t room = 0; room < ROOM_ROOMS; room++) {
+        struct room_sync sync = {0};
+        uint8_t bytes[ROOM_SYNC_BYTES];
+        size_t made = room_desk_sync(run->desks[s], ROOM_DESK_WORDS, room, bytes, sizeof bytes);
+        const struct heard *heard = &run->heard[s][room];
+        if (!room_sync_read(bytes, made, &sync) || sync.seat != SEATS * run->server.office + s ||
+            sync.start != heard->start || sync.previous != heard->view) {
+            fault(run, SYNCS, sync.start, heard->start);
+        }
+    }
+}
+
+/* The desks of the seats that are among the members hear the notice or view. They never begin again, and one desk
+ * hears all rooms. */
 static void hear(struct run *run, const uint8_t *record, size_t size) {
     for (unsigned s = 0; s < SEATS; s++) {
-        if (room_has(room_get_set(record + 6), SEATS * run->office + s)) {
-            uint8_t refusal = room_seat_hear(run->seats[s], ROOM_SEAT_WORDS, record, size);
+        if (room_has(room_get_set(record + 7), SEATS * run->server.office + s)) {
+            uint8_t refusal = room_desk_hear(run->desks[s], ROOM_DESK_WORDS, record, size);
+            struct heard *heard = &run->heard[s][record[2]];
+            *(size == ROOM_VIEW_BYTES ? &heard->view : &heard->start) = room_get_number(record + 3);
             if (refusal != 0) {
                 fault(run, HEARD, refusal, 0);
             }
+            judge_syncs(run, s);
         }
     }
 }
 
 /* Before a record with a number above the last mark there is one more, of its largest number plus the margin, or L. */
-static void judge_mark(struct run *run, uint32_t largest) {
+static void judge_mark(struct run *run, uint32_t largest, uint8_t room) {
     if (largest > run->reached) {
         run->reached = largest > L - MARGIN ? L : largest + MARGIN;
+        run->left[room % ROOM_ROOMS].called = run->reached;
         if (run->next + ROOM_MARK_BYTES > run->length || room_get_number(run->bytes + run->next + 2) != run->reached) {
             fault(run, MARKS, largest, run->reached);
         }
@@ -518,14 +594,14 @@ static bool is_counted(const struct plan *plan) { return plan->wrong == NOTHING 
 /* A fresh office of the members, another than the sender, is handed the proposal: 19 comes before all that depends on
  * its state. */
 static void judge_self_use(struct run *run, const uint8_t *proposal, uint32_t number) {
-    uint32_t state[ROOM_STATE_WORDS], used = room_get_number(proposal + 20 + 4 * run->office);
+    uint32_t table[ROOM_TABLE_WORDS], used = room_get_number(proposal + 21 + 4 * run->server.office);
     uint8_t out[ROOM_OUTPUT_BYTES], other = 0;
-    while (other < 15 && (other == run->office || (room_get_set(proposal + 4) & seats_of(other)) == 0)) {
+    while (other < 15 && (other == run->server.office || (room_get_set(proposal + 5) & seats_of(other)) == 0)) {
         other++;
     }
-    uint8_t made = room_fresh(other, state, ROOM_STATE_WORDS);
+    uint8_t made = room_fresh(other, table, ROOM_TABLE_WORDS);
     unsigned refusal =
-        room_refused(room_step(state, ROOM_STATE_WORDS, proposal, ROOM_PROPOSAL_BYTES, out, sizeof out));
+        room_refused(room_step(table, ROOM_TABLE_WORDS, proposal, ROOM_PROPOSAL_BYTES, out, sizeof out));
     if (used >= number || made != 0 || (refusal != 0 && refusal != ROOM_REFUSED_UNREACHED)) {
         fault(run, SELF_USES, used, number);
     }
@@ -533,25 +609,47 @@ static void judge_self_use(struct run *run, const uint8_t *proposal, uint32_t nu
     seen.just_below += is_counted(run->plan) && used + 1 == number;
 }
 
+static bool serves(const struct server *server, uint8_t room) {
+    for (unsigned i = 0; i < server->served; i++) {
+        if (server->rooms[i] == room) {
+            return true;
+        }
+    }
+    return false;
+}
+
+/* A record of a room that the child serves, with the number that is to rise in this room. */
+static void judge_number(struct run *run, const uint8_t *record, size_t size, uint32_t own) {
+    struct left *left = &run->left[record[2]];
+    if (size == ROOM_PROPOSAL_BYTES) {
+        rises(run, PROPOSALS, &left->proposal, own);
+        judge_self_use(run, record, own);
+    } else {
+        bool view = size == ROOM_VIEW_BYTES;
+        rises(run, view ? VIEWS : NOTICES, view ? &left->view : &left->start, own);
+        hear(run, record, size);
+    }
+    seen.rooms[record[2]] += is_counted(run->plan);
+    left->now = true;
+}
+
 static void judge_record(struct run *run, const uint8_t *record, size_t size) {
-    bool proposal = memcmp(record, "PR", 2) == 0, view = memcmp(record, "VW", 2) == 0;
-    uint32_t own = room_get_number(record + (proposal ? 16 : 2)), largest = own;
-    for (size_t at = proposal ? 12 : 14; at < size; at += 4) {
+    bool proposal = memcmp(record, "PR", 2) == 0;
+    uint32_t own = room_get_number(record + (proposal ? 17 : 3)), largest = own;
+    for (size_t at = proposal ? 13 : 15; at < size; at += 4) {
         uint32_t number = room_get_number(record + at);
         largest = number > largest ? number : largest;
     }
     if (largest > run->last) {
         fault(run, BELOW, largest, run->last);
     }
-    judge_mark(run, largest);
-    if (proposal) {
-        rises(run, PROPOSALS, &run->proposal, own);
-        judge_self_use(run, record, own);
-    } else {
-        rises(run, view ? VIEWS : NOTICES, view ? &run->view : &run->start, own);
-        hear(run, record, size);
-    }
+    judge_mark(run, largest, record[2]);
     run->records++;
+    if (serves(&run->server, record[2])) {
+        judge_number(run, record, size, own);
+    } else {
+        fault(run, OF_ROOM, record[2], run->server.rooms[0]);
+    }
 }
 
 static void count_note(const struct note *note) {
@@ -560,10 +658,23 @@ static void count_note(const struct note *note) {
     seen.twice += note->twice;
     seen.viewed += note->viewed;
     seen.foreign += note->foreign;
+    seen.covered += note->covered;
     for (unsigned i = 0; i < 4; i++) {
         seen.answers[i] += note->answers[i];
         seen.nth[i] += note->cut == IN_MARK && note->nth == i;
     }
+}
+
+/* A round is over: the rooms of which records left in it and before it. */
+static void judge_rooms(struct run *run) {
+    unsigned again = 0;
+    for (unsigned room = 0; room < ROOM_ROOMS; room++) {
+        struct left *left = &run->left[room];
+        again += left->before && left->now;
+        left->before |= left->now;
+        left->now = false;
+    }
+    seen.both += is_counted(run->plan) && again > 1;
 }
 
 /* All that left in a round, and behind it the note of a child that killed itself. */
@@ -627,7 +738,7 @@ static void play_round(struct run *run) {
     }
     if (child == 0) {
         close(ends[0]);
-        live(plan, run->office, ends[1], actions, seed);
+        live(plan, &run->server, run->round, ends[1], actions, seed);
     }
     close(ends[1]);
     if (plan->actions == 0) {
@@ -644,19 +755,33 @@ static void play_round(struct run *run) {
     run->next = run->length / ROOM_MARK_BYTES * ROOM_MARK_BYTES;
     judge_file(run);
     judge_pipe(run, left, length, at_limit);
+    judge_rooms(run);
     run->over = plan->pairs > 0 ? run->round == 3 : at_limit && (plan->actions == 0 || run->note.cut == IDLED);
+}
+
+/* Any office; any two rooms, or in one file of four all eight, in any order. */
+static struct server some_server(void) {
+    struct server server = {.office = (uint8_t)below(ROOM_OFFICES), .served = below(4) == 0 ? ROOM_ROOMS : 2};
+    for (unsigned i = 0; i < ROOM_ROOMS; i++) {
+        unsigned at = below(i + 1);
+        server.rooms[i] = server.rooms[at];
+        server.rooms[at] = (uint8_t)i;
+    }
+    return server;
 }
 
 static void begin_file(struct run *run) {
     run->file++;
     run->round = 0;
-    run->office = (uint8_t)below(ROOM_OFFICES);
+    run->server = some_server();
     for (uint8_t s = 0; s < SEATS; s++) {
-        if (room_seat_fresh((uint8_t)(SEATS * run->office + s), run->seats[s], ROOM_SEAT_WORDS)) {
-            stop("no seat");
+        if (room_desk_fresh((uint8_t)(SEATS * run->server.office + s), run->desks[s], ROOM_DESK_WORDS)) {
+            stop("no desk");
         }
     }
-    run->proposal = run->start = run->view = run->last = 0;
+    memset(run->heard, 0, sizeof run->heard);
+    memset(run->left, 0, sizeof run->left);
+    run->last = 0;
     run->length = 0;
     run->over = false;
     run->held = open(path, O_RDWR | O_CREAT | O_TRUNC, 0600);
@@ -680,6 +805,9 @@ static void count_restart(const struct run *run) {
     seen.torn[run->length % ROOM_MARK_BYTES]++;
     seen.empty += run->length < ROOM_MARK_BYTES;
     seen.thousand += run->length / ROOM_MARK_BYTES >= 1000;
+    for (unsigned room = 0; room < ROOM_ROOMS; room++) {
+        seen.higher += run->left[room].before && run->left[room].called < run->last;
+    }
 }
 
 /* The rounds of a file until it is over. */
@@ -734,6 +862,8 @@ static const struct plan wrong[] = {
     {"a child that puts a mark behind an unfinished one", 3000000, 60, 1000, 0, APPENDS, RESTARTS},
     {"a child that begins again at the fresh state", 3000000, 60, 1000, 0, FRESH, NOTICES},
     {"a child that sends its own new number as already used", 3000000, 60, 1000, 0, OWN_USED, SELF_USES},
+    {"a child that begins again at its mark in room 0 only", 3000000, 60, 1000, 0, ROOM_0_ONLY, NOTICES},
+    {"a child that keeps a last mark for each room", 3000000, 60, 1000, 0, MARK_EACH, RESTARTS},
 };
 
 static void play_right(void) {
@@ -792,6 +922,12 @@ static void judge_counts(void) {
     came(seen.twice, "answers", "with a notice and two proposals");
     came(seen.viewed, "answers", "with a notice, a proposal and a view");
     came(seen.foreign, "marks", "that a used number alone calls for");
+    came(seen.covered, "records", "without a mark, since another room's is high enough");
+    for (int i = 0; i < ROOM_ROOMS; i++) {
+        came(seen.rooms[i], "records of room", digits[i]);
+    }
+    came(seen.both, "rounds", "in which two rooms or more that had sent before the restart send again");
+    came(seen.higher, "rooms", "that begin again above the last mark which they called for themselves");
     came(seen.just_below, "proposals", "whose used number for the sender is just below their own");
     printf("proposals: %lu\n", seen.proposals);
     verdict(seen.proposals >= 10000, "10,000 proposals in rounds that are the same in every run");

@@ -1,9 +1,10 @@
-// The worked days that document 01 does not star, the reports that change nothing, the proposals that claim to have
-// used themselves, the edges of lengths and offices, the order of the refusals, and where document 01 decides against
-// Moshe, by the calls for C. A try is one call: its refusal, its count, every byte of the output, and where it is
-// refused or does nothing every word of the state. What is expected is written from documents 01 and 02; unwritten
-// bytes are 170, as they were lent. Then a seat's own day and its refusals: a try is one record heard, its answer and
-// the four words of the seat after it. Worked sheets come last.
+// The worked days that document 01 does not star and the counts of those that it does, the reports that change
+// nothing, the proposals that claim to have used themselves, the edges of lengths, offices and rooms, the order of the
+// refusals, and where document 01 decides against Moshe, by the calls for C. A try is one call: its refusal, its
+// count, every byte of the output, every word of the rooms that the record is not of, and where it is refused or does
+// nothing every word of the table. What is expected is written from documents 01 and 02; unwritten bytes are 170, as
+// they were lent. Days are in room 0 where no room is named. Then a desk's own day and its refusals: a try is one
+// record heard, its answer and the 25 words of the desk after it. Worked sheets come last.
 #[path = "common/sheet_calls.rs"]
 mod sheet_calls;
 #[path = "common/worked_sheets.rs"]
@@ -11,19 +12,26 @@ mod worked_sheets;
 
 #[link(name = "room", kind = "static")]
 extern "C" {
-    fn room_fresh(office: u8, state: *mut u32, words: usize) -> u8;
-    fn room_step(state: *mut u32, words: usize, record: *const u8, length: usize, out: *mut u8, room: usize) -> u32;
-    fn room_seat_fresh(seat: u8, desk: *mut u32, words: usize) -> u8;
-    fn room_seat_hear(desk: *mut u32, words: usize, record: *const u8, length: usize) -> u8;
+    fn room_fresh(office: u8, table: *mut u32, words: usize) -> u8;
+    fn room_step(table: *mut u32, words: usize, record: *const u8, length: usize, out: *mut u8, capacity: usize)
+        -> u32;
+    fn room_view_number(table: *const u32, words: usize, room: u8) -> u32;
+    fn room_desk_fresh(seat: u8, desk: *mut u32, words: usize) -> u8;
+    fn room_desk_hear(desk: *mut u32, words: usize, record: *const u8, length: usize) -> u8;
 }
 
 const L: u32 = 2_000_000_000;
 const FAST: u8 = 1;
 const SLOW: u8 = 2;
 
-// Places of a state, by docs/LAYOUT.md.
+// The longest answer: a start notice and two proposals.
+const CAPACITY: usize = 185;
+
+// Rows of eight rooms, and places of a row, by docs/LAYOUT.md.
+const ROOMS: usize = 8;
 const WORDS: usize = 410;
-const TOO_FEW: usize = WORDS - 1;
+const TABLE: usize = 3280;
+const TOO_FEW: usize = TABLE - 1;
 const OWN: usize = 0;
 const MODE: usize = 1;
 const NET: usize = 2;
@@ -37,7 +45,10 @@ const STORED_NUMBER_15: usize = 393;
 const LENT_WORD: u32 = 170;
 const LENT_BYTE: u8 = 170;
 
-type State = Vec<u32>;
+// The words of a desk: its seat, and three of each room.
+const DESK: usize = 25;
+
+type Table = Vec<u32>;
 
 struct Proposal {
     sender: u8,
@@ -48,24 +59,30 @@ struct Proposal {
     used: [u32; 3],
 }
 
-// Records, most significant byte first; the used numbers of offices 0, 1 and 2 are given, the others are 0.
+// Records of room 0, most significant byte first; the used numbers of offices 0, 1 and 2 are given, the others are 0.
 fn report(joining: u64, leaving: u64) -> Vec<u8> {
-    [&b"NE"[..], &joining.to_be_bytes(), &leaving.to_be_bytes()].concat()
+    [&b"NE\0"[..], &joining.to_be_bytes(), &leaving.to_be_bytes()].concat()
 }
 
 fn notice(start: u32, members: u64) -> Vec<u8> {
-    [&b"SC"[..], &start.to_be_bytes(), &members.to_be_bytes()].concat()
+    [&b"SC\0"[..], &start.to_be_bytes(), &members.to_be_bytes()].concat()
+}
+
+// The same record of another room.
+fn in_room(room: u8, mut record: Vec<u8>) -> Vec<u8> {
+    record[2] = room;
+    record
 }
 
 // The start numbers of offices 0 and 1 are given.
 fn view(number: u32, members: u64, start_0: u32, start_1: u32) -> Vec<u8> {
     let numbers = [&start_0.to_be_bytes()[..], &start_1.to_be_bytes(), &[0; 56]].concat();
-    [&b"VW"[..], &number.to_be_bytes(), &members.to_be_bytes(), &numbers].concat()
+    [&b"VW\0"[..], &number.to_be_bytes(), &members.to_be_bytes(), &numbers].concat()
 }
 
 fn bytes(p: Proposal) -> Vec<u8> {
     let mut record =
-        [&b"PR"[..], &[p.sender, p.kind], &p.members.to_be_bytes(), &p.start.to_be_bytes(), &p.number.to_be_bytes()]
+        [&b"PR\0"[..], &[p.sender, p.kind], &p.members.to_be_bytes(), &p.start.to_be_bytes(), &p.number.to_be_bytes()]
             .concat();
     for office in 0..16 {
         record.extend(p.used.get(office).unwrap_or(&0).to_be_bytes());
@@ -88,37 +105,51 @@ fn wrong(sender: u8, kind: u8, members: u64, start: u32, used: [u32; 3]) -> Vec<
 }
 
 // The answer of one call: refusal, count, and the output after it.
-fn step(state: &mut [u32], record: &[u8], room: usize) -> (u32, u32, Vec<u8>) {
-    let mut out = vec![LENT_BYTE; room];
-    let answer =
-        unsafe { room_step(state.as_mut_ptr(), state.len(), record.as_ptr(), record.len(), out.as_mut_ptr(), room) };
+fn step(table: &mut [u32], record: &[u8], capacity: usize) -> (u32, u32, Vec<u8>) {
+    let mut out = vec![LENT_BYTE; capacity];
+    let (words, length) = (table.len(), record.len());
+    let answer = unsafe { room_step(table.as_mut_ptr(), words, record.as_ptr(), length, out.as_mut_ptr(), capacity) };
     (answer % 256, answer / 256, out)
 }
 
-fn made(office: u8, words: usize) -> (u8, State) {
-    let mut state = vec![LENT_WORD; words];
-    let refusal = unsafe { room_fresh(office, state.as_mut_ptr(), words) };
-    (refusal, state)
+fn made(office: u8, words: usize) -> (u8, Table) {
+    let mut table = vec![LENT_WORD; words];
+    let refusal = unsafe { room_fresh(office, table.as_mut_ptr(), words) };
+    (refusal, table)
 }
 
-fn fresh() -> State {
-    made(0, WORDS).1
+fn fresh() -> Table {
+    made(0, TABLE).1
 }
 
-fn made_seat(seat: u8, words: usize) -> (u8, Vec<u32>) {
+fn view_number(table: &[u32], room: u8) -> u32 {
+    unsafe { room_view_number(table.as_ptr(), table.len(), room) }
+}
+
+fn made_desk(seat: u8, words: usize) -> (u8, Vec<u32>) {
     let mut made = vec![LENT_WORD; words];
-    let refusal = unsafe { room_seat_fresh(seat, made.as_mut_ptr(), words) };
+    let refusal = unsafe { room_desk_fresh(seat, made.as_mut_ptr(), words) };
     (refusal, made)
 }
 
-// Office 0 and its seat 0.
-struct OfficeAndSeat {
-    office: State,
-    seat: Vec<u32>,
+// A desk: its seat; in one room the last start number, the last view number, whether a change is open. The other rooms
+// have words of their own, which would pass and would do for some records.
+fn desk(room: usize, [seat, start, view, open]: [u32; 4]) -> Vec<u32> {
+    let mut words = vec![seat];
+    words.extend((0..ROOMS as u32).flat_map(|other| [2, 2 + other % 2, other % 3]));
+    words[1 + 3 * room..4 + 3 * room].copy_from_slice(&[start, view, open]);
+    words
 }
 
-fn both_fresh() -> OfficeAndSeat {
-    OfficeAndSeat { office: fresh(), seat: made_seat(0, 4).1 }
+// Office 0 and its seat 0, which are in one room.
+struct OfficeAndDesk {
+    office: Table,
+    desk: Vec<u32>,
+    room: u8,
+}
+
+fn both_fresh(room: u8) -> OfficeAndDesk {
+    OfficeAndDesk { office: fresh(), desk: made_desk(0, DESK).1, room }
 }
 
 // The notices and views among what is written; proposals go to other offices.
@@ -126,11 +157,11 @@ fn to_seats(mut rest: &[u8]) -> Vec<&[u8]> {
     let mut all = Vec::new();
     while !rest.is_empty() {
         let (record, more) = rest.split_at(match rest[0] {
-            b'S' => 14,
-            b'V' => 78,
-            _ => 84,
+            b'S' => 15,
+            b'V' => 79,
+            _ => 85,
         });
-        if record.len() != 84 {
+        if record.len() != 85 {
             all.push(record);
         }
         rest = more;
@@ -138,46 +169,51 @@ fn to_seats(mut rest: &[u8]) -> Vec<&[u8]> {
     all
 }
 
-// A seat's answer to one record, and its words after it.
-fn hear(seat: &[u32], record: &[u8]) -> (u8, Vec<u32>) {
-    let mut after = seat.to_vec();
-    let refusal = unsafe { room_seat_hear(after.as_mut_ptr(), after.len(), record.as_ptr(), record.len()) };
+// A desk's answer to one record, and its words after it.
+fn hear(desk: &[u32], record: &[u8]) -> (u8, Vec<u32>) {
+    let mut after = desk.to_vec();
+    let refusal = unsafe { room_desk_hear(after.as_mut_ptr(), after.len(), record.as_ptr(), record.len()) };
     (refusal, after)
 }
 
-fn with(place: usize, word: u32) -> State {
+fn with(place: usize, word: u32) -> Table {
     changed(fresh(), place, word)
 }
 
-fn changed(mut state: State, place: usize, word: u32) -> State {
-    state[place] = word;
-    state
+// A word of room 0, and of any room.
+fn changed(table: Table, place: usize, word: u32) -> Table {
+    changed_in(0, table, place, word)
 }
 
-fn after(mut state: State, record: Vec<u8>) -> State {
-    let (refusal, ..) = step(&mut state, &record, 182);
+fn changed_in(room: usize, mut table: Table, place: usize, word: u32) -> Table {
+    table[WORDS * room + place] = word;
+    table
+}
+
+fn after(mut table: Table, record: Vec<u8>) -> Table {
+    let (refusal, ..) = step(&mut table, &record, CAPACITY);
     assert_eq!(refusal, 0, "an event before a try is accepted");
-    state
+    table
 }
 
-fn after_a() -> State {
+fn after_a() -> Table {
     after(fresh(), report(0x01, 0))
 }
 
-fn after_b() -> State {
+fn after_b() -> Table {
     after(after_a(), report(0x10, 0))
 }
 
-fn after_c() -> State {
+fn after_c() -> Table {
     after(after_b(), p(FAST, 1, 1, 0, 0))
 }
 
-fn after_g() -> State {
+fn after_g() -> Table {
     after(after_b(), p(FAST, 3, 2, 2, 1))
 }
 
 // Its own number is L.
-fn at_the_ceiling() -> State {
+fn at_the_ceiling() -> Table {
     after(after(fresh(), p(SLOW, 1, L - 2, 0, 0)), report(0x11, 0))
 }
 
@@ -196,51 +232,188 @@ impl Tally {
         }
     }
 
-    fn accepted(&mut self, name: &str, mut state: State, record: Vec<u8>, written: Vec<u8>) {
-        let (refusal, count, out) = step(&mut state, &record, 182);
+    fn accepted(&mut self, name: &str, table: Table, record: Vec<u8>, written: Vec<u8>) {
+        let mut left = table.clone();
+        let (refusal, count, out) = step(&mut left, &record, CAPACITY);
         let mut expected = written.clone();
-        expected.resize(182, LENT_BYTE);
-        self.say(name, refusal == 0 && count as usize == written.len() && out == expected);
+        expected.resize(CAPACITY, LENT_BYTE);
+        // the rows of the other rooms
+        let others = (0..TABLE).filter(|at| at / WORDS != record[2] as usize).all(|at| left[at] == table[at]);
+        self.say(name, refusal == 0 && count as usize == written.len() && out == expected && others);
+    }
+
+    // The number of bytes alone, as request 9 gives it.
+    fn counts(&mut self, name: &str, mut table: Table, record: Vec<u8>, bytes: u32) {
+        let (refusal, count, _) = step(&mut table, &record, CAPACITY);
+        self.say(name, refusal == 0 && count == bytes);
     }
 
     // Every byte and every word stays as it was.
-    fn unchanged(&mut self, name: &str, room: usize, state: State, record: &[u8], refusal: u32) {
-        let mut left = state.clone();
-        let (got, count, out) = step(&mut left, record, room);
-        self.say(name, got == refusal && count == 0 && out == vec![LENT_BYTE; room] && left == state);
+    fn unchanged(&mut self, name: &str, capacity: usize, table: Table, record: &[u8], refusal: u32) {
+        let mut left = table.clone();
+        let (got, count, out) = step(&mut left, record, capacity);
+        self.say(name, got == refusal && count == 0 && out == vec![LENT_BYTE; capacity] && left == table);
     }
 
-    fn refused(&mut self, name: &str, state: State, record: &[u8], refusal: u32) {
-        self.unchanged(name, 182, state, record, refusal);
+    fn refused(&mut self, name: &str, table: Table, record: &[u8], refusal: u32) {
+        self.unchanged(name, CAPACITY, table, record, refusal);
     }
 
     // Accepted, and nothing comes of it.
-    fn does_nothing(&mut self, name: &str, state: State, record: Vec<u8>) {
-        self.unchanged(name, 182, state, &record, 0);
+    fn does_nothing(&mut self, name: &str, table: Table, record: Vec<u8>) {
+        self.unchanged(name, CAPACITY, table, &record, 0);
     }
 
-    // One event at the office: what it writes to its seats, each accepted by the seat, and the seat's words after
-    // each.
-    fn tells(&mut self, name: &str, at: &mut OfficeAndSeat, record: Vec<u8>, told: &[(Vec<u8>, [u32; 4])]) {
-        let (refusal, count, out) = step(&mut at.office, &record, 182);
+    // One event at the office in its room: what it writes to its seats, each accepted by the desk, and the room's
+    // words at the desk after each. The desk's other words stay.
+    fn tells(&mut self, name: &str, at: &mut OfficeAndDesk, record: Vec<u8>, told: &[(Vec<u8>, [u32; 3])]) {
+        let (refusal, count, out) = step(&mut at.office, &in_room(at.room, record), CAPACITY);
+        let told: Vec<_> = told.iter().map(|(record, words)| (in_room(at.room, record.clone()), words)).collect();
         let mut good =
             refusal == 0 && to_seats(&out[..count as usize]).into_iter().eq(told.iter().map(|(record, _)| record));
         for (record, words) in told {
-            let (answer, after) = hear(&at.seat, record);
-            good &= answer == 0 && after == words;
-            at.seat = after;
+            let mut expected = at.desk.clone();
+            expected[1 + 3 * at.room as usize..][..3].copy_from_slice(words);
+            let (answer, after) = hear(&at.desk, &record);
+            good &= answer == 0 && after == expected;
+            at.desk = after;
         }
         self.say(name, good);
     }
 
     fn hears(&mut self, name: &str, seat: [u32; 4], record: &[u8], after: [u32; 4]) {
-        self.say(name, hear(&seat, record) == (0, after.to_vec()));
+        self.hears_in(0, name, seat, record, after);
     }
 
-    // The words stay, four or not.
-    fn not_heard(&mut self, name: &str, seat: &[u32], record: &[u8], refusal: u8) {
-        self.say(name, hear(seat, record) == (refusal, seat.to_vec()));
+    fn hears_in(&mut self, room: usize, name: &str, seat: [u32; 4], record: &[u8], after: [u32; 4]) {
+        self.say(name, hear(&desk(room, seat), record) == (0, desk(room, after)));
     }
+
+    fn not_heard(&mut self, name: &str, seat: [u32; 4], record: &[u8], refusal: u8) {
+        self.not_heard_by(name, &desk(0, seat), record, refusal);
+    }
+
+    // The words stay, 25 or not.
+    fn not_heard_by(&mut self, name: &str, desk: &[u32], record: &[u8], refusal: u8) {
+        self.say(name, hear(desk, record) == (refusal, desk.to_vec()));
+    }
+}
+
+// The counts of request 9, in room 0: what document 01 stars.
+fn counts(t: &mut Tally) {
+    let both = || report(0x11, 0);
+    t.counts("A: 94 bytes", fresh(), report(0x01, 0), 94);
+    t.counts("B: 100 bytes", after_a(), report(0x10, 0), 100);
+    t.counts("C: 79 bytes", after_b(), p(FAST, 1, 1, 0, 0), 79);
+    t.refused("D: 11", after_c(), &p(FAST, 1, 1, 0, 0), 11);
+    t.counts("E: 100 bytes", after_c(), p(FAST, 3, 2, 2, 1), 100);
+    t.counts("F: 79 bytes", after(after_c(), p(FAST, 3, 2, 2, 1)), p(SLOW, 3, 3, 2, 1), 79);
+    t.counts("G: 85 bytes", after_b(), p(FAST, 3, 2, 2, 1), 85);
+    t.refused("H: 12", after_b(), &p(FAST, 1, 1, 3, 0), 12);
+    t.counts("I: 0 bytes", fresh(), p(SLOW, 1, 5, 0, 0), 0);
+    t.counts("I: 185 bytes", after(fresh(), p(SLOW, 1, 5, 0, 0)), both(), 185);
+    t.counts("J: 179 bytes", after(fresh(), p(FAST, 1, 1, 0, 0)), both(), 179);
+    t.refused("K: 13", after(fresh(), p(FAST, 1, L, 0, 0)), &both(), 13);
+    t.counts("N: 0 bytes", after_b(), report(0, 0), 0);
+}
+
+// Eight rooms: a day in each, beside whatever stands in the others.
+fn rooms(t: &mut Tally) {
+    let joins = |room| in_room(room, report(0x01, 0));
+    let told = |room| [in_room(room, notice(1, 0x01)), in_room(room, view(2, 0x01, 1, 0))].concat();
+    for room in 0..ROOMS as u8 {
+        t.accepted(&format!("A in room {room}"), fresh(), joins(room), told(room));
+        let busy = || (0..ROOMS as u8).filter(|&other| other != room).fold(fresh(), |table, other| {
+            after(after(table, joins(other)), in_room(other, report(0x10, 0)))
+        });
+        t.accepted(&format!("A in room {room}, after B in all others"), busy(), joins(room), told(room));
+        t.accepted(&format!("C in room {room} after B there, and after B in all others"),
+            after(after(busy(), joins(room)), in_room(room, report(0x10, 0))), in_room(room, p(FAST, 1, 1, 0, 0)),
+            in_room(room, view(3, 0x11, 2, 1)));
+        t.accepted(&format!("P in room {room} is no agreement of the others"), busy(),
+            in_room(room, p(FAST, 1, 1, 0, 0)), vec![]);
+        let written = [notice(1, 0x11), own(FAST, 1, 6, 0, 0), own(SLOW, 1, 7, 0, 0)];
+        t.accepted(&format!("I in room {room}, after B in all others"),
+            after(busy(), in_room(room, p(SLOW, 1, 5, 0, 0))), in_room(room, report(0x11, 0)),
+            written.map(|record| in_room(room, record)).concat());
+        let there = after(busy(), joins(room));
+        t.say(&format!("the views after A in room {room} and B in all others"),
+            (0..ROOMS as u8).all(|asked| view_number(&there, asked) == 2));
+        let only = after(fresh(), joins(room));
+        t.say(&format!("the views after A in room {room} alone, every byte asked"),
+            (0..=255).all(|asked| view_number(&only, asked) == if asked == room { 2 } else { 0 }));
+        t.does_nothing(&format!("room {room}, its report again"), only, joins(room));
+        let at_the_top = || (0..ROOMS).filter(|&other| other != room as usize).fold(fresh(), |table, other| {
+            changed_in(other, changed_in(other, table, NUMBER, L), START, L)
+        });
+        t.accepted(&format!("A in room {room}, all others at L"), at_the_top(), joins(room), told(room));
+        let last = changed_in(room as usize, fresh(), START, L);
+        t.refused(&format!("room {room} at L gets 13"), last.clone(), &joins(room), 13);
+        let next = (room + 1) % 8;
+        t.accepted(&format!("room {next}, that before it at L"), last, joins(next), told(next));
+    }
+}
+
+// A row has its own office. Room 3 is office 1's here, the others are office 0's.
+fn offices_of_rooms(t: &mut Tally) {
+    let table = || changed_in(3, fresh(), OWN, 1);
+    t.accepted("room 3 of office 1, seat 0 joins: 0 bytes", table(), in_room(3, report(0x01, 0)), vec![]);
+    t.accepted("room 3 of office 1, seat 4 joins", table(), in_room(3, report(0x10, 0)),
+        [in_room(3, notice(1, 0x10)), in_room(3, view(2, 0x10, 0, 1))].concat());
+    t.refused("room 3 of office 1, its own proposal gets 6", table(), &in_room(3, p(FAST, 1, 1, 0, 0)), 6);
+    t.accepted("room 3 of office 1, office 0's proposal", table(), in_room(3, own(FAST, 1, 1, 0, 0)), vec![]);
+    t.accepted("room 2 beside it, office 1's proposal", table(), in_room(2, p(FAST, 1, 1, 0, 0)), vec![]);
+    t.refused("room 2 beside it, office 0's proposal gets 6", table(), &in_room(2, own(FAST, 1, 1, 0, 0)), 6);
+}
+
+// 20, and its place in the order.
+fn rooms_above_7(t: &mut Tally) {
+    for room in [8, 9, 127, 128, 254, 255] {
+        t.refused(&format!("a report of room {room} gets 20"), fresh(), &in_room(room, report(0x01, 0)), 20);
+        t.refused(&format!("an empty report of room {room} gets 20"), after_b(), &in_room(room, report(0, 0)), 20);
+        t.refused(&format!("a proposal of room {room} gets 20"), after_b(), &in_room(room, p(FAST, 1, 1, 0, 0)), 20);
+    }
+    t.accepted("a report of room 7 is accepted", fresh(), in_room(7, report(0x10, 0)), vec![]);
+    let above = |record| in_room(8, record);
+    t.refused("2 before 20", with(OWN, 16), &above(report(0x01, 0)), 2);
+    t.refused("2 before 20, in the last row", changed_in(7, fresh(), NUMBER, L + 1), &above(report(0x01, 0)), 2);
+    t.unchanged("3 before 20", 184, fresh(), &above(report(0x01, 0)), 3);
+    t.refused("4 before 20", fresh(), &above(notice(1, 0x01)), 4);
+    t.refused("5 before 20, a byte too few", fresh(), &above(report(0x01, 0))[..18], 5);
+    t.refused("5 before 20, a byte too many", fresh(), &[above(report(0x01, 0)), vec![0]].concat(), 5);
+    t.refused("5 before 20, three bytes", fresh(), b"PR\x08", 5);
+    t.refused("20 before 6", after_b(), &above(own(FAST, 1, 1, 0, 0)), 20);
+    t.refused("20 before 7", after_b(), &above(p(0, 1, 1, 0, 0)), 20);
+    t.refused("20 before 8", after_b(), &above(p(FAST, 0, 1, 0, 0)), 20);
+    t.refused("20 before 9", after_b(), &above(wrong(1, FAST, 0x10, 1, [0, 0, 0])), 20);
+    t.refused("20 before 10", after_b(), &above(wrong(1, FAST, 0x11, 1, [0, 0, 1])), 20);
+    t.refused("20 before 19", after_b(), &above(p(FAST, 1, 1, 0, 1)), 20);
+    t.refused("20 before 11", after_c(), &above(p(FAST, 1, 1, 0, 0)), 20);
+    t.refused("20 before 12", after_b(), &above(p(FAST, 1, 1, 3, 0)), 20);
+    t.refused("20 before 13", at_the_ceiling(), &above(report(0x100, 0)), 20);
+}
+
+// Check 2 is of all eight rows, whatever room the record is of.
+fn tables(t: &mut Tally) {
+    for (bad, of) in [(0, 7), (7, 0), (3, 4), (4, 3), (1, 1), (6, 0), (2, 5), (5, 2)] {
+        let joins = in_room(of, report(0x01, 0));
+        let try_2 = |t: &mut Tally, what: &str, place: usize, word: u32| {
+            let name = format!("{what} in room {bad}, a report of room {of}, gets 2");
+            t.refused(&name, changed_in(bad, fresh(), place, word), &joins, 2);
+        };
+        try_2(t, "an own office of 16", OWN, 16);
+        try_2(t, "a mode of 3", MODE, 3);
+        try_2(t, "presence of 65,536", PRESENT, 65_536);
+        try_2(t, "a start number above L", START, L + 1);
+        try_2(t, "a view number above L", VIEW_NUMBER, L + 1);
+        try_2(t, "a last accepted number above L", ACCEPTED_15, L + 1);
+    }
+    t.accepted("an own office of 15 in room 6, a report of room 0", changed_in(6, fresh(), OWN, 15), report(0x01, 0),
+        [notice(1, 0x01), view(2, 0x01, 1, 0)].concat());
+    t.refused("a row alone gets 2", fresh()[..WORDS].to_vec(), &report(0x01, 0), 2);
+    t.refused("seven rows get 2", fresh()[..7 * WORDS].to_vec(), &report(0x01, 0), 2);
+    t.refused("nine rows get 2", vec![0; 9 * WORDS], &report(0x01, 0), 2);
+    t.refused("no words get 2", vec![], &report(0x01, 0), 2);
 }
 
 // M; where document 01 decides against Moshe: the slow test looks at every stored matching proposal of the other
@@ -305,25 +478,28 @@ fn repeats_and_refusals(t: &mut Tally) {
     t.does_nothing("number L and seat 0, an empty report", changed(with(NUMBER, L), NET, 0x01), report(0, 0));
     t.does_nothing("start number L and seat 0, an empty report", changed(with(START, L), NET, 0x01), report(0, 0));
     t.refused("a repeat on a malformed state gets 2", changed(after_b(), NUMBER, L + 1), &report(0x10, 0), 2);
-    t.unchanged("a repeat with an output of 181 bytes gets 3", 181, after_b(), &report(0x10, 0), 3);
-    t.refused("two empty sets under another mark get 4", after_b(), &[&b"EN"[..], &[0; 16]].concat(), 4);
-    t.refused("an empty report of 17 bytes gets 5", after_b(), &report(0, 0)[..17], 5);
-    t.refused("an empty report of 19 bytes gets 5", after_b(), &[report(0, 0), vec![0]].concat(), 5);
+    t.unchanged("a repeat with an output of 184 bytes gets 3", 184, after_b(), &report(0x10, 0), 3);
+    t.refused("two empty sets under another mark get 4", after_b(), &[&b"EN"[..], &[0; 17]].concat(), 4);
+    t.refused("an empty report of 18 bytes gets 5", after_b(), &report(0, 0)[..18], 5);
+    t.refused("an empty report of 20 bytes gets 5", after_b(), &[report(0, 0), vec![0]].concat(), 5);
 }
 
 fn edges(t: &mut Tally) {
-    let zeros = vec![0; WORDS];
-    let mut last = zeros.clone();
-    last[OWN] = 15;
-    t.say("office 15 is made", made(15, WORDS) == (0, last));
-    t.say("office 16 gets 1, and the state of office 0", made(16, WORDS) == (1, zeros));
-    t.say("a state in a word too few gets 2", made(0, TOO_FEW) == (2, vec![LENT_WORD; TOO_FEW]));
+    let zeros = vec![0; TABLE];
+    let last: Table = (0..TABLE).map(|at| if at % WORDS == OWN { 15 } else { 0 }).collect();
+    t.say("office 15 is made, in all rooms", made(15, TABLE) == (0, last));
+    t.say("office 16 gets 1, and the table of office 0", made(16, TABLE) == (1, zeros));
+    t.say("office 16 in a word too few gets 1", made(16, TOO_FEW) == (1, vec![LENT_WORD; TOO_FEW]));
+    t.say("a row alone gets 2", made(0, WORDS) == (2, vec![LENT_WORD; WORDS]));
+    t.say("a table in a word too few gets 2", made(0, TOO_FEW) == (2, vec![LENT_WORD; TOO_FEW]));
     t.refused("a record on a word too few gets 2", vec![LENT_WORD; TOO_FEW], &report(0x01, 0), 2);
-    t.unchanged("an output of 181 bytes gets 3", 181, fresh(), &report(0x01, 0), 3);
-    t.accepted("an output of 182 bytes serves (day I)", after(fresh(), p(SLOW, 1, 5, 0, 0)), report(0x11, 0),
+    t.unchanged("an output of 184 bytes gets 3", 184, fresh(), &report(0x01, 0), 3);
+    t.accepted("an output of 185 bytes serves (day I)", after(fresh(), p(SLOW, 1, 5, 0, 0)), report(0x11, 0),
         [notice(1, 0x11), own(FAST, 1, 6, 0, 0), own(SLOW, 1, 7, 0, 0)].concat());
-    t.refused("a report of 17 bytes gets 5", fresh(), &report(0x01, 0)[..17], 5);
-    t.refused("a report of 19 bytes gets 5", fresh(), &[report(0x01, 0), vec![0]].concat(), 5);
+    t.refused("a report of 18 bytes gets 5", fresh(), &report(0x01, 0)[..18], 5);
+    t.refused("a report of 20 bytes gets 5", fresh(), &[report(0x01, 0), vec![0]].concat(), 5);
+    t.refused("a proposal of 84 bytes gets 5", fresh(), &p(FAST, 1, 1, 0, 0)[..84], 5);
+    t.refused("a proposal of 86 bytes gets 5", fresh(), &[p(FAST, 1, 1, 0, 0), vec![0]].concat(), 5);
     t.refused("an empty record gets 4", fresh(), &[], 4);
     t.refused("one byte gets 4", fresh(), b"N", 4);
 }
@@ -383,8 +559,9 @@ fn order(t: &mut Tally) {
     t.unchanged("2 before 3 and 4", 1, with(OWN, 16), &[], 2);
     t.unchanged("3 before 4", 1, fresh(), b"??", 3);
     t.refused("4 before 5", fresh(), b"??", 4);
-    t.refused("5 before 6", fresh(), b"PR\x10\x00", 5);
+    t.refused("5 before 20", fresh(), b"PR\x08\x10\x00", 5);
     let heard = || after(after_b(), p(FAST, 1, L, 0, 0));
+    t.refused("20 before 6", heard(), &in_room(8, wrong(0, 0, 0x10, 0, [L, L, L + 1])), 20);
     t.refused("6 before 7", heard(), &wrong(0, 0, 0x10, 0, [L, L, L + 1]), 6);
     t.refused("7 before 8", heard(), &wrong(1, 0, 0x01, 0, [9, L, L + 1]), 7);
     t.refused("8 before 9", heard(), &wrong(1, SLOW, 0x01, 0, [9, L, L + 1]), 8);
@@ -432,26 +609,26 @@ fn no_self_uses(t: &mut Tally) {
     t.refused("office 1, the number for itself", after_b(), &of_three(1, [0, 1, 0]), 19);
     t.accepted("office 2, the number for office 1", after_b(), of_three(2, [0, 1, 0]), vec![]);
     t.refused("office 2, the number for itself", after_b(), &of_three(2, [0, 0, 1]), 19);
-    t.refused("at office 1: office 0, the number for itself", made(1, WORDS).1, &own(FAST, 1, 1, 1, 0), 19);
-    t.refused("at office 1: office 0, the number for office 1: 12", made(1, WORDS).1, &own(FAST, 1, 1, 0, 1), 12);
+    t.refused("at office 1: office 0, the number for itself", made(1, TABLE).1, &own(FAST, 1, 1, 1, 0), 19);
+    t.refused("at office 1: office 0, the number for office 1: 12", made(1, TABLE).1, &own(FAST, 1, 1, 0, 1), 12);
     // the used number for office 15 is the last of the record
     let members = 1 << 60 | 1;
     let mut of_last = bytes(Proposal { sender: 15, kind: FAST, members, start: 1, number: 7, used: [0; 3] });
-    of_last[83] = 6;
+    of_last[84] = 6;
     t.accepted("office 15, just below the number for itself", fresh(), of_last.clone(), vec![]);
-    of_last[83] = 7;
+    of_last[84] = 7;
     t.refused("office 15, the number for itself", fresh(), &of_last, 19);
     let members = 1 << 60 | 0x10;
     let to_last = |used| bytes(Proposal { sender: 1, kind: FAST, members, start: 1, number: 7, used });
-    t.accepted("at office 15: office 1, just below its number", made(15, WORDS).1, to_last([0, 6, 0]), vec![]);
-    t.refused("at office 15: office 1, its number", made(15, WORDS).1, &to_last([0, 7, 0]), 19);
+    t.accepted("at office 15: office 1, just below its number", made(15, TABLE).1, to_last([0, 6, 0]), vec![]);
+    t.refused("at office 15: office 1, its number", made(15, TABLE).1, &to_last([0, 7, 0]), 19);
 }
 
 // Two reasons at once, and no more.
 fn self_uses_in_order(t: &mut Tally) {
     let seats = |members, used| bytes(Proposal { sender: 1, kind: FAST, members, start: 1, number: 1, used });
     t.refused("2 before 19", changed(after_b(), NUMBER, L + 1), &p(FAST, 1, 1, 0, 1), 2);
-    t.unchanged("3 before 19", 181, after_b(), &p(FAST, 1, 1, 0, 1), 3);
+    t.unchanged("3 before 19", 184, after_b(), &p(FAST, 1, 1, 0, 1), 3);
     t.refused("5 before 19", after_b(), &[p(FAST, 1, 1, 0, 1), vec![0]].concat(), 5);
     t.refused("6 before 19", after_b(), &own(FAST, 1, 1, 1, 0), 6);
     t.refused("7 before 19", after_b(), &p(3, 1, 1, 0, 1), 7);
@@ -470,50 +647,87 @@ fn self_uses_in_order(t: &mut Tally) {
     t.refused("19 before 13, proposal L + 1", after_b(), &p(FAST, 1, L, 2, L), 19);
 }
 
-// A seat's words: itself, its last start number, its last view number, whether a change is open. Seat 0 hears A, B
+// A room's words at a desk: the last start number, the last view number, whether a change is open. Seat 0 hears A, B
 // and C, is away, and is back.
-fn seat_day(t: &mut Tally) {
-    let at = &mut both_fresh();
+fn desk_day(t: &mut Tally, room: u8) {
+    let at = &mut both_fresh(room);
     t.tells("A, seat 0 joins",
-        at, report(0x01, 0), &[(notice(1, 0x01), [0, 1, 0, 1]), (view(2, 0x01, 1, 0), [0, 1, 2, 0])]);
-    t.tells("B, seat 4 joins", at, report(0x10, 0), &[(notice(2, 0x11), [0, 2, 2, 1])]);
-    t.tells("C, office 1 proposes", at, p(FAST, 1, 1, 0, 0), &[(view(3, 0x11, 2, 1), [0, 2, 3, 0])]);
-    t.accepted("after C, seat 0 leaves, 0 bytes", at.office.clone(), report(0, 0x01), vec![]);
+        at, report(0x01, 0), &[(notice(1, 0x01), [1, 0, 1]), (view(2, 0x01, 1, 0), [1, 2, 0])]);
+    t.tells("B, seat 4 joins", at, report(0x10, 0), &[(notice(2, 0x11), [2, 2, 1])]);
+    t.tells("C, office 1 proposes", at, p(FAST, 1, 1, 0, 0), &[(view(3, 0x11, 2, 1), [2, 3, 0])]);
+    t.accepted("after C, seat 0 leaves, 0 bytes", at.office.clone(), in_room(room, report(0, 0x01)), vec![]);
     t.tells("after C, seat 0 leaves", at, report(0, 0x01), &[]);
-    t.accepted("seat 0 comes back, 98 bytes",
-        at.office.clone(), report(0x01, 0), [notice(3, 0x11), own(FAST, 3, 3, 2, 1)].concat());
-    t.tells("seat 0 comes back", at, report(0x01, 0), &[(notice(3, 0x11), [0, 3, 3, 1])]);
+    t.accepted("seat 0 comes back, 100 bytes", at.office.clone(), in_room(room, report(0x01, 0)),
+        [in_room(room, notice(3, 0x11)), in_room(room, own(FAST, 3, 3, 2, 1))].concat());
+    t.tells("seat 0 comes back", at, report(0x01, 0), &[(notice(3, 0x11), [3, 3, 1])]);
     // office 1 had a view of seat 4 alone meanwhile, number 4
-    t.tells("office 1 proposes again", at, p(FAST, 4, 3, 2, 2), &[(view(5, 0x11, 3, 4), [0, 3, 5, 0])]);
+    t.tells("office 1 proposes again", at, p(FAST, 4, 3, 2, 2), &[(view(5, 0x11, 3, 4), [3, 5, 0])]);
     t.tells("seat 4 leaves",
-        at, report(0, 0x10), &[(notice(5, 0x01), [0, 5, 5, 1]), (view(6, 0x01, 5, 0), [0, 5, 6, 0])]);
+        at, report(0, 0x10), &[(notice(5, 0x01), [5, 5, 1]), (view(6, 0x01, 5, 0), [5, 6, 0])]);
 }
 
 // Seat 0 is away while its office goes on with seat 1. What lacks it is not for it, and would change nothing.
-fn seat_day_without_it(t: &mut Tally) {
-    let at = &mut both_fresh();
+fn desk_day_without_it(t: &mut Tally) {
+    let at = &mut both_fresh(0);
     t.tells("seats 0 and 1 join",
-        at, report(0x03, 0), &[(notice(1, 0x03), [0, 1, 0, 1]), (view(2, 0x03, 1, 0), [0, 1, 2, 0])]);
+        at, report(0x03, 0), &[(notice(1, 0x03), [1, 0, 1]), (view(2, 0x03, 1, 0), [1, 2, 0])]);
     t.accepted("seat 0 leaves, seat 1 stays",
         at.office.clone(), report(0, 0x01), [notice(2, 0x02), view(3, 0x02, 2, 0)].concat());
     at.office = after(at.office.clone(), report(0, 0x01));
-    t.not_heard("the notice without seat 0", &at.seat, &notice(2, 0x02), 9);
-    t.not_heard("the view without seat 0", &at.seat, &view(3, 0x02, 2, 0), 9);
+    t.not_heard_by("the notice without seat 0", &at.desk, &notice(2, 0x02), 9);
+    t.not_heard_by("the view without seat 0", &at.desk, &view(3, 0x02, 2, 0), 9);
     t.tells("seat 0 comes back to seat 1",
-        at, report(0x01, 0), &[(notice(3, 0x03), [0, 3, 2, 1]), (view(4, 0x03, 3, 0), [0, 3, 4, 0])]);
+        at, report(0x01, 0), &[(notice(3, 0x03), [3, 2, 1]), (view(4, 0x03, 3, 0), [3, 4, 0])]);
+}
+
+// One desk in two rooms at once: what comes in one leaves the other as it is.
+fn desk_in_two_rooms(t: &mut Tally) {
+    let at = &mut both_fresh(2);
+    t.tells("room 2: seat 0 joins",
+        at, report(0x01, 0), &[(notice(1, 0x01), [1, 0, 1]), (view(2, 0x01, 1, 0), [1, 2, 0])]);
+    at.room = 6;
+    t.tells("room 6: seats 0 and 4 join", at, report(0x11, 0), &[(notice(1, 0x11), [1, 0, 1])]);
+    at.room = 2;
+    t.tells("room 2: seat 4 joins", at, report(0x10, 0), &[(notice(2, 0x11), [2, 2, 1])]);
+    at.room = 6;
+    t.not_heard_by("room 2's next view said of room 6 gets 15", &at.desk, &in_room(6, view(3, 0x11, 2, 1)), 15);
+    t.not_heard_by("room 6's notice again gets 14", &at.desk, &in_room(6, notice(1, 0x11)), 14);
+    t.not_heard_by("a view of a room without a change open gets 15", &at.desk, &in_room(5, view(3, 0x11, 2, 1)), 15);
+    t.tells("room 6: office 1 proposes", at, p(FAST, 1, 1, 0, 0), &[(view(2, 0x11, 1, 1), [1, 2, 0])]);
+    at.room = 2;
+    t.tells("room 2: office 1 proposes", at, p(FAST, 1, 1, 0, 0), &[(view(3, 0x11, 2, 1), [2, 3, 0])]);
 }
 
 // Seat 0 after B, with a change open, and after C.
 const AFTER_B: [u32; 4] = [0, 2, 2, 1];
 const AFTER_C: [u32; 4] = [0, 2, 3, 0];
 
-fn seat_edges(t: &mut Tally) {
-    t.say("seat 0 is made", made_seat(0, 4) == (0, vec![0, 0, 0, 0]));
-    t.say("seat 63 is made", made_seat(63, 4) == (0, vec![63, 0, 0, 0]));
-    t.say("seat 64 gets 6, and the fresh seat 0", made_seat(64, 4) == (6, vec![0, 0, 0, 0]));
-    t.say("a seat in 3 words gets 6", made_seat(0, 3) == (6, vec![LENT_WORD; 3]));
-    t.say("a seat in 5 words gets 6", made_seat(0, 5) == (6, vec![LENT_WORD; 5]));
-    t.say("seat 64 in 5 words gets 6", made_seat(64, 5) == (6, vec![LENT_WORD; 5]));
+fn desk_edges(t: &mut Tally) {
+    let of = |seat: u32| [&[seat][..], &[0; 24]].concat();
+    t.say("a desk of seat 0 is made", made_desk(0, DESK) == (0, of(0)));
+    t.say("a desk of seat 63 is made", made_desk(63, DESK) == (0, of(63)));
+    t.say("seat 64 gets 6, and the fresh desk of seat 0", made_desk(64, DESK) == (6, of(0)));
+    t.say("seat 255 gets 6, and the fresh desk of seat 0", made_desk(255, DESK) == (6, of(0)));
+    for words in [0, 1, 4, 24, 26] {
+        t.say(&format!("a desk in {words} words gets 6"), made_desk(0, words) == (6, vec![LENT_WORD; words]));
+        t.say(&format!("seat 64 in {words} words gets 6"), made_desk(64, words) == (6, vec![LENT_WORD; words]));
+    }
+    for room in 0..ROOMS {
+        let (started, seen) = (in_room(room as u8, notice(3, 0x11)), in_room(room as u8, view(3, 0x11, 2, 1)));
+        t.hears_in(room, &format!("a notice of room {room}"), AFTER_B, &started, [0, 3, 2, 1]);
+        t.hears_in(room, &format!("a view of room {room}"), AFTER_B, &seen, AFTER_C);
+        for other in (0..ROOMS).filter(|&other| other != room) {
+            let high = changed_desk(changed_desk(desk(room, AFTER_B), 1 + 3 * other, L + 1), 2 + 3 * other, u32::MAX);
+            let mut after = high.clone();
+            after[1 + 3 * room..4 + 3 * room].copy_from_slice(&[2, 3, 0]);
+            let name = format!("a view of room {room}, numbers of room {other} above L");
+            t.say(&name, hear(&high, &seen) == (0, after));
+        }
+        t.not_heard_by(&format!("room {room}'s own last start number above L gets 8"),
+            &desk(room, [0, L + 1, 2, 1]), &seen, 8);
+        t.not_heard_by(&format!("room {room}'s own last view number above L gets 8"),
+            &desk(room, [0, 2, L + 1, 1]), &started, 8);
+    }
     t.hears("the last seat of all", [63, 0, 0, 0], &notice(1, 1 << 63), [63, 1, 0, 1]);
     t.hears("a seat of office 1 looks at the start number of office 1",
         [4, 1, 2, 1], &view(3, 0x11, 2, 1), [4, 1, 3, 0]);
@@ -526,54 +740,80 @@ fn seat_edges(t: &mut Tally) {
     t.hears("a change is open by any word but 0, and a view leaves 0",
         [0, 2, 2, 7], &view(3, 0x11, 2, 1), [0, 2, 3, 0]);
     t.hears("a change is open by any word but 0, and a notice leaves 1", [0, 2, 2, 7], &notice(3, 0x11), [0, 3, 2, 1]);
-    t.not_heard("a refusal leaves the word that was there", &[0, 2, 2, 7], &notice(2, 0x11), 14);
+    t.not_heard("a refusal leaves the word that was there", [0, 2, 2, 7], &notice(2, 0x11), 14);
 }
 
-fn seat_refusals(t: &mut Tally) {
-    t.not_heard("seat 64 gets 6", &[64, 2, 2, 1], &notice(3, u64::MAX), 6);
-    t.not_heard("three words get 6", &[0, 2, 2], &notice(3, 0x11), 6);
-    t.not_heard("five words get 6", &[0, 2, 2, 1, 0], &notice(3, 0x11), 6);
-    t.not_heard("no byte gets 4", &AFTER_B, &[], 4);
-    t.not_heard("one byte of a notice gets 4", &AFTER_B, b"S", 4);
-    t.not_heard("a report gets 4", &AFTER_B, &report(0x11, 0), 4);
-    t.not_heard("a proposal gets 4", &AFTER_B, &p(FAST, 1, 1, 0, 0), 4);
-    t.not_heard("a notice of 13 bytes gets 5", &AFTER_B, &notice(3, 0x11)[..13], 5);
-    t.not_heard("a notice of 15 bytes gets 5", &AFTER_B, &[notice(3, 0x11), vec![0]].concat(), 5);
-    t.not_heard("a view of 14 bytes gets 5", &AFTER_B, &view(3, 0x11, 2, 1)[..14], 5);
-    t.not_heard("a view of 79 bytes gets 5", &AFTER_B, &[view(3, 0x11, 2, 1), vec![0]].concat(), 5);
-    t.not_heard("a start number above L gets 8", &AFTER_B, &notice(L + 1, 0x11), 8);
-    t.not_heard("a view number above L gets 8", &AFTER_B, &view(L + 1, 0x11, 2, 1), 8);
-    t.not_heard("another office's start number above L gets 8", &AFTER_B, &view(3, 0x11, 2, L + 1), 8);
-    t.not_heard("a last start number above L gets 8", &[0, L + 1, 2, 1], &notice(3, 0x11), 8);
-    t.not_heard("a last view number above L gets 8", &[0, 2, L + 1, 1], &view(3, 0x11, 2, 1), 8);
-    t.not_heard("a notice for seats 1 and 4 gets 9", &AFTER_B, &notice(3, 0x12), 9);
-    t.not_heard("a view of seats 1 and 4 gets 9", &AFTER_B, &view(3, 0x12, 2, 1), 9);
-    t.not_heard("a start number of office 1 without its seats gets 10", &AFTER_B, &view(3, 0x01, 2, 1), 10);
-    t.not_heard("the last start number again gets 14", &AFTER_B, &notice(2, 0x11), 14);
-    t.not_heard("a start number below the last view number gets 14", &[0, 2, 5, 0], &notice(4, 0x11), 14);
-    t.not_heard("the view of C again gets 15", &AFTER_C, &view(3, 0x11, 2, 1), 15);
-    t.not_heard("a view with another start number of office 0 gets 15", &AFTER_B, &view(4, 0x11, 3, 2), 15);
-    t.not_heard("view 2 after start number 2 gets 16", &AFTER_B, &view(2, 0x11, 2, 1), 16);
+fn changed_desk(mut desk: Vec<u32>, place: usize, word: u32) -> Vec<u32> {
+    desk[place] = word;
+    desk
+}
+
+fn desk_refusals(t: &mut Tally) {
+    t.not_heard("seat 64 gets 6", [64, 2, 2, 1], &notice(3, u64::MAX), 6);
+    for words in [0, 1, 4, 24, 26] {
+        let mut other = desk(0, AFTER_B);
+        other.resize(words, 0);
+        t.not_heard_by(&format!("{words} words get 6"), &other, &notice(3, 0x11), 6);
+    }
+    t.not_heard("no byte gets 4", AFTER_B, &[], 4);
+    t.not_heard("one byte of a notice gets 4", AFTER_B, b"S", 4);
+    t.not_heard("a report gets 4", AFTER_B, &report(0x11, 0), 4);
+    t.not_heard("a proposal gets 4", AFTER_B, &p(FAST, 1, 1, 0, 0), 4);
+    t.not_heard("a notice of 14 bytes gets 5", AFTER_B, &notice(3, 0x11)[..14], 5);
+    t.not_heard("a notice of 16 bytes gets 5", AFTER_B, &[notice(3, 0x11), vec![0]].concat(), 5);
+    t.not_heard("a view of 15 bytes gets 5", AFTER_B, &view(3, 0x11, 2, 1)[..15], 5);
+    t.not_heard("a view of 78 bytes gets 5", AFTER_B, &view(3, 0x11, 2, 1)[..78], 5);
+    t.not_heard("a view of 80 bytes gets 5", AFTER_B, &[view(3, 0x11, 2, 1), vec![0]].concat(), 5);
+    for room in [8, 9, 128, 255] {
+        t.not_heard(&format!("a notice of room {room} gets 20"), AFTER_B, &in_room(room, notice(3, 0x11)), 20);
+        t.not_heard(&format!("a view of room {room} gets 20"), AFTER_B, &in_room(room, view(3, 0x11, 2, 1)), 20);
+    }
+    t.not_heard("a start number above L gets 8", AFTER_B, &notice(L + 1, 0x11), 8);
+    t.not_heard("a view number above L gets 8", AFTER_B, &view(L + 1, 0x11, 2, 1), 8);
+    t.not_heard("another office's start number above L gets 8", AFTER_B, &view(3, 0x11, 2, L + 1), 8);
+    t.not_heard("a last start number above L gets 8", [0, L + 1, 2, 1], &notice(3, 0x11), 8);
+    t.not_heard("a last view number above L gets 8", [0, 2, L + 1, 1], &view(3, 0x11, 2, 1), 8);
+    t.not_heard("a notice for seats 1 and 4 gets 9", AFTER_B, &notice(3, 0x12), 9);
+    t.not_heard("a view of seats 1 and 4 gets 9", AFTER_B, &view(3, 0x12, 2, 1), 9);
+    t.not_heard("a start number of office 1 without its seats gets 10", AFTER_B, &view(3, 0x01, 2, 1), 10);
+    t.not_heard("the last start number again gets 14", AFTER_B, &notice(2, 0x11), 14);
+    t.not_heard("a start number below the last view number gets 14", [0, 2, 5, 0], &notice(4, 0x11), 14);
+    t.not_heard("the view of C again gets 15", AFTER_C, &view(3, 0x11, 2, 1), 15);
+    t.not_heard("a view with another start number of office 0 gets 15", AFTER_B, &view(4, 0x11, 3, 2), 15);
+    t.not_heard("view 2 after start number 2 gets 16", AFTER_B, &view(2, 0x11, 2, 1), 16);
 }
 
 // Each input is wrong in all that comes after the number it gets.
-fn seat_order(t: &mut Tally) {
-    t.not_heard("6 before 4 and 8", &[64, L + 1, 2, 0], &[], 6);
-    t.not_heard("6 before 5 and 8", &[64, L + 1, 2, 0], b"SC", 6);
-    t.not_heard("4 before 8", &[0, L + 1, 2, 0], b"??", 4);
-    t.not_heard("5 before 8", &[0, 2, L + 1, 0], b"VW", 5);
-    t.not_heard("8 before 9, a notice", &[0, 2, L + 1, 0], &notice(1, 0x10), 8);
-    t.not_heard("8 before 9, a view", &AFTER_C, &view(1, 0x10, L + 1, 1), 8);
-    t.not_heard("9 before 14", &AFTER_C, &notice(1, 0x10), 9);
-    t.not_heard("9 before 10", &AFTER_C, &view(1, 0x10, 3, 1), 9);
-    t.not_heard("10 before 15", &AFTER_C, &view(1, 0x01, 3, 1), 10);
-    t.not_heard("15 before 16, no change open", &AFTER_C, &view(1, 0x11, 2, 1), 15);
-    t.not_heard("15 before 16, another start number", &AFTER_B, &view(1, 0x11, 3, 1), 15);
-    t.not_heard("16 comes last", &AFTER_B, &view(1, 0x11, 2, 1), 16);
+fn desk_order(t: &mut Tally) {
+    t.not_heard("6 before 4 and 8", [64, L + 1, 2, 0], &[], 6);
+    t.not_heard("6 before 5 and 8", [64, L + 1, 2, 0], b"SC", 6);
+    t.not_heard("6 before 20", [64, L + 1, 2, 0], &in_room(8, notice(1, 0x10)), 6);
+    t.not_heard("4 before 20 and 8", [0, L + 1, 2, 0], &in_room(8, report(0x01, 0)), 4);
+    t.not_heard("4 before 8", [0, L + 1, 2, 0], b"??", 4);
+    t.not_heard("5 before 20 and 8", [0, 2, L + 1, 0], b"VW\x08", 5);
+    t.not_heard("5 before 8", [0, 2, L + 1, 0], b"VW", 5);
+    t.not_heard("20 before 8 and 9, a notice", [0, 2, L + 1, 0], &in_room(8, notice(L + 1, 0x10)), 20);
+    t.not_heard("20 before 8 and 9, a view", AFTER_C, &in_room(8, view(1, 0x10, L + 1, 1)), 20);
+    t.not_heard("20 before 14", AFTER_C, &in_room(8, notice(1, 0x11)), 20);
+    t.not_heard("20 before 15", AFTER_C, &in_room(8, view(3, 0x11, 2, 1)), 20);
+    t.not_heard("20 before 16", AFTER_B, &in_room(8, view(1, 0x11, 2, 1)), 20);
+    t.not_heard("8 before 9, a notice", [0, 2, L + 1, 0], &notice(1, 0x10), 8);
+    t.not_heard("8 before 9, a view", AFTER_C, &view(1, 0x10, L + 1, 1), 8);
+    t.not_heard("9 before 14", AFTER_C, &notice(1, 0x10), 9);
+    t.not_heard("9 before 10", AFTER_C, &view(1, 0x10, 3, 1), 9);
+    t.not_heard("10 before 15", AFTER_C, &view(1, 0x01, 3, 1), 10);
+    t.not_heard("15 before 16, no change open", AFTER_C, &view(1, 0x11, 2, 1), 15);
+    t.not_heard("15 before 16, another start number", AFTER_B, &view(1, 0x11, 3, 1), 15);
+    t.not_heard("16 comes last", AFTER_B, &view(1, 0x11, 2, 1), 16);
 }
 
 fn main() {
     let mut tally = Tally { passed: 0, failed: 0 };
+    counts(&mut tally);
+    rooms(&mut tally);
+    offices_of_rooms(&mut tally);
+    rooms_above_7(&mut tally);
+    tables(&mut tally);
     days(&mut tally);
     repeats(&mut tally);
     repeats_and_refusals(&mut tally);
@@ -584,11 +824,12 @@ fn main() {
     self_uses(&mut tally);
     no_self_uses(&mut tally);
     self_uses_in_order(&mut tally);
-    seat_day(&mut tally);
-    seat_day_without_it(&mut tally);
-    seat_edges(&mut tally);
-    seat_refusals(&mut tally);
-    seat_order(&mut tally);
+    (0..ROOMS as u8).for_each(|room| desk_day(&mut tally, room));
+    desk_day_without_it(&mut tally);
+    desk_in_two_rooms(&mut tally);
+    desk_edges(&mut tally);
+    desk_refusals(&mut tally);
+    desk_order(&mut tally);
     worked_sheets::all(&mut tally);
     println!("{} passed, {} failed", tally.passed, tally.failed);
     std::process::exit((tally.failed != 0) as i32);

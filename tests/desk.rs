@@ -12,14 +12,14 @@ extern "C" {
     fn room_office_count(set: u64) -> u8;
 }
 
-// Document 01, "Reasons to refuse", 4 and 5.
+// Document 01, "Reasons to refuse", 4 and 5, with the lengths of request 9. The room is not looked at.
 fn expected_check(record: &[u8]) -> u8 {
     if record.len() < 2 {
         return 4;
     }
     let length = match [record[0], record[1]] {
-        [0x4e, 0x45] => 18,
-        [0x50, 0x52] => 84,
+        [0x4e, 0x45] => 19,
+        [0x50, 0x52] => 85,
         _ => return 4,
     };
     if record.len() != length {
@@ -100,7 +100,7 @@ impl Tally {
 }
 
 const MARKS: [[u8; 2]; 4] = [*b"NE", *b"PR", *b"SC", *b"VW"];
-const LENGTHS: [usize; 4] = [18, 84, 14, 78];
+const LENGTHS: [usize; 4] = [19, 85, 15, 79];
 
 fn with_mark(mark: [u8; 2], mut record: Vec<u8>) -> Vec<u8> {
     for (at, byte) in mark.into_iter().enumerate().take(record.len()) {
@@ -132,7 +132,14 @@ fn main() {
         with_mark(MARKS[k % 4], r.bytes(n))
     }));
     t.records("every mark at the two lengths", (0..=0xffff_u16).flat_map(|m| {
-        [18, 84].map(|n| with_mark(m.to_be_bytes(), vec![0x45; n]))
+        [19, 85].map(|n| with_mark(m.to_be_bytes(), vec![0x45; n]))
+    }));
+    t.records("every room byte in each record, a byte less and a byte more", (0..=255_u8).flat_map(|room| {
+        (0..4).flat_map(move |k| [LENGTHS[k] - 1, LENGTHS[k], LENGTHS[k] + 1].map(|n| {
+            let mut record = with_mark(MARKS[k], vec![0; n]);
+            record[2] = room;
+            record
+        }))
     }));
     let mut r = Random(5);
     t.records("random bytes", (0..100_000).map(|_| {

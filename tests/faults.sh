@@ -57,20 +57,20 @@ holds() {
 
 zeros() { head -c "$1" /dev/zero; }
 
-# report SEATS: a report whose joining set has this last byte; nobody leaves
+# report SEATS: a report of room 0 whose joining set has this last byte; nobody leaves
 report() {
-    printf 'NE' && zeros 7 && printf "$1" && zeros 8
+    printf 'NE\0' && zeros 7 && printf "$1" && zeros 8
 }
 
-# P(fast, 1, 1, 0, 0)
+# P(fast, 1, 1, 0, 0) of room 0
 proposal() {
-    printf 'PR\1\1' && zeros 7 && printf '\21\0\0\0\1\0\0\0\1' && zeros 64
+    printf 'PR\0\1\1' && zeros 7 && printf '\21\0\0\0\1\0\0\0\1' && zeros 64
 }
 
 # office 0, and the records of A, B, C, D
 { printf '\0' && report '\1' && report '\20' && proposal && proposal; } >days
-a='1 0 92 2'$'\n'
-days=$a'2 0 98 2'$'\n''3 0 78 3'$'\n''4 11 0 3'$'\n'
+a='1 0 94 2'$'\n'
+days=$a'2 0 100 2'$'\n''3 0 79 3'$'\n''4 11 0 3'$'\n'
 none='0 1 0 0'$'\n'
 sentence='The output cannot be written.'$'\n'
 unread='The input cannot be read.'$'\n'
@@ -81,24 +81,30 @@ pieces() { dd if="$2" bs="$1" 2>pieces.err | timeout 60 "$room"; }
 from() { timeout 60 "$room" <"$1"; }
 
 case_of 'a file' "$days" from days
-for n in 1 2 7 17 19 83 85 100; do
+for n in 1 2 3 7 18 19 20 84 85 86 100; do
     case_of "pieces of $n bytes" "$days" pieces "$n" days
 done
 
-# The input ends inside a record: 4 for under two bytes, else 5.
-for n in 20 21 36; do
+# The input ends inside a record: 4 for under two bytes, else 5. No view number is printed then.
+for n in 21 22 23 38; do
     head -c "$n" days >cut
-    if [ "$n" = 20 ]; then refusal=4; else refusal=5; fi
-    case_of "the input ends after $n bytes" "$a""2 $refusal 0 2"$'\n' from cut
-    case_of "the input ends after $n bytes, in pieces" "$a""2 $refusal 0 2"$'\n' pieces 1 cut
+    if [ "$n" = 21 ]; then refusal=4; else refusal=5; fi
+    case_of "the input ends after $n bytes" "$a""2 $refusal 0 0"$'\n' from cut
+    case_of "the input ends after $n bytes, in pieces" "$a""2 $refusal 0 0"$'\n' pieces 1 cut
 done
-head -c 19 days >cut
+head -c 20 days >cut
 case_of 'the input ends with a record' "$a" from cut
 
 # After another mark the program stops; what comes later is not read.
-{ cat cut && printf 'SC' && tail -c +20 days; } >other
-case_of 'another mark' "$a"'2 4 0 2'$'\n' from other
-case_of 'another mark, in pieces' "$a"'2 4 0 2'$'\n' pieces 1 other
+{ cat cut && printf 'SC' && tail -c +21 days; } >other
+case_of 'another mark' "$a"'2 4 0 0'$'\n' from other
+case_of 'another mark, in pieces' "$a"'2 4 0 0'$'\n' pieces 1 other
+
+# After a room above 7 it goes on, and the record has its mark's length.
+{ cat cut && printf 'NE\10' && zeros 16 && printf 'PR\377' && zeros 82 && tail -c +21 days; } >above_7
+passed_over=$a'2 20 0 0'$'\n''3 20 0 0'$'\n''4 0 100 2'$'\n''5 0 79 3'$'\n''6 11 0 3'$'\n'
+case_of 'rooms above 7' "$passed_over" from above_7
+case_of 'rooms above 7, in pieces' "$passed_over" pieces 1 above_7
 
 # No office byte, or one above 15.
 : >empty && printf '\20' >above && printf '\17' >highest
@@ -120,9 +126,9 @@ for program in "$room" "$trace"; do
 
     # Where a read fails later, the records that came whole have their lines, and the rest has none.
     whole=-1
-    for n in 0 1 2 18 19 20 21 36 37 38 120 121 204 205; do
+    for n in 0 1 2 19 20 21 22 23 38 39 40 123 124 208 209; do
         head -c "$n" days >cut
-        case $n in 1 | 19 | 37 | 121 | 205) whole=$((whole + 1)) ;; esac
+        case $n in 1 | 20 | 39 | 124 | 209) whole=$((whole + 1)) ;; esac
         due=
         [ "$whole" -le 0 ] || due=$(lines_of "$program" "$whole")$'\n'
         both "$name: a read fails after $n bytes" "$due" "$unread" ./at_fault reset "$program" cut
@@ -133,7 +139,7 @@ for program in "$room" "$trace"; do
 
     # An input that has nothing now is waited for, the office byte too; its end is its end.
     all=$(lines_of "$program" 4)$'\n'
-    for piece in '1 1' '10 20' '40 50' '205 300'; do
+    for piece in '1 1' '10 20' '40 50' '209 300'; do
         read -r n ms <<<"$piece"
         both "$name: late, $n bytes each $ms ms" "$all" '' ./at_fault late "$program" days "$n" "$ms"
     done
@@ -142,7 +148,7 @@ for program in "$room" "$trace"; do
     both "$name: late, and has no office byte" "$none" '' ./at_fault late "$program" empty 1 200
 
     # A read that a signal interrupts is made again.
-    for n in 0 1 2 19 30 205; do
+    for n in 0 1 2 3 20 30 209; do
         both "$name: interrupted after $n bytes" "$all" '' ./at_fault stopped "$program" days "$n"
     done
 
@@ -160,7 +166,7 @@ waited() {
     local line
     coproc server { timeout 60 "$1"; }
     { printf '\0' && report '\1'; } >&"${server[1]}"
-    IFS= read -r -t 20 line <&"${server[0]}" && [ "$line" = '1 0 92 2' ]
+    IFS= read -r -t 20 line <&"${server[0]}" && [ "$line" = '1 0 94 2' ]
 }
 holds 'a line before the next record' waited "$room"
 
@@ -182,7 +188,7 @@ for program in "$room" "$trace"; do
 done
 
 # An output that is full for a while gets every line, and one that takes a part gets no byte of it twice.
-{ printf '\0' && for i in $(seq 50000); do printf 'NE\0\0\0\0\0\0\0\0\0\0\0\0\0\0\0\0'; done; } >many
+{ printf '\0' && for i in $(seq 50000); do printf 'NE\0\0\0\0\0\0\0\0\0\0\0\0\0\0\0\0\0'; done; } >many
 many=$(seq -f '%.0f 0 0 0' 50000)$'\n'
 for program in "$room" "$trace"; do
     name=${program##*/}
@@ -196,14 +202,14 @@ for program in "$room" "$trace"; do
 done
 
 # 2,097,152 empty reports: nothing is written, and the lines are numbered to the end.
-{ printf 'NE' && zeros 16; } >reports
+{ printf 'NE' && zeros 17; } >reports
 for i in $(seq 21); do cat reports reports >more && mv more reports; done
 { printf '\0' && cat reports; } >long
 seq -f '%.0f 0 0 0' 2097152 >expected
 peak() { /usr/bin/time -o "$1" -f %M "$room" <"$2" >got; }
 peak small days
 peak large long
-same 'an input of 36 megabytes' expected got
+same 'an input of 39 megabytes' expected got
 holds 'memory does not grow with the input' [ "$(cat large)" -le "$(($(cat small) + 1024))" ]
 
 # Where nobody reads the output any more, the program is ended by the signal for that.

@@ -1,6 +1,8 @@
 #!/usr/bin/env bash
 # The C headers beside the documents, and by themselves.
-#   sizes      every #define of a number in include/room.h is one decimal number, and docs/LAYOUT.md has it
+#   sizes      every #define of a number in include/room.h is one decimal number, and docs/LAYOUT.md has it; those that
+#              are products or sums of others are so
+#   places     the words of a desk and the room of a record are where docs/LAYOUT.md has them
 #   compiling  room.h, room_words.h and both, as C and as C++ with all warnings as errors, with and without attributes
 #   warnings   of every call: a NULL in place of each pointer, and an answer that nobody looks at, are warned of
 #   numbers    each number that has landed has a name in the enum, a text, a row of docs/EMBEDDING.md that begins
@@ -12,7 +14,7 @@ set -u
 cd "$(dirname "$(readlink -f "${BASH_SOURCE[0]}")")/.." || exit 1
 export LC_ALL=C.UTF-8
 shopt -s nullglob
-landed=19
+landed=20
 passed=0 failed=0
 scratch=$(mktemp -d)
 trap 'rm -rf "$scratch"' EXIT
@@ -47,11 +49,9 @@ said() {
 # record NAME: the length of a record by the table
 record() { sed -nE "s/^\| $1 \| ([0-9]+) \|.*/\1/p" docs/LAYOUT.md; }
 
-# enumerated FILE NAME: the value of a name in an enum
-enumerated() { sed -nE "s/^.*\b$2 = ([0-9]+)\b.*/\1/p" "$1"; }
-
 declare -A held=(
     [ROOM_VERSION]=$(said 'version N \(`ROOM_VERSION`')
+    [ROOM_ROOMS]=$(said 'There are N rooms')
     [ROOM_OFFICES]=$(said 'Of the N offices, office o')
     [ROOM_SEATS]=$(said 'is a N-bit number with bit s set')
     [ROOM_OFFICE_SEATS]=$(said 'office o has the N seats')
@@ -68,29 +68,57 @@ declare -A held=(
     [ROOM_FILE_MARKS]=$(said 'at most N marks, [0-9,]+ bytes')
     [ROOM_FILE_BYTES]=$(said 'at most [0-9,]+ marks, N bytes')
     [ROOM_MARK_MARGIN]=$(said 'of the largest plus N, or L')
-    [ROOM_STATE_WORDS]=$(said 'as N words of 32 bits \(`ROOM_STATE_WORDS`')
-    [ROOM_SEAT_WORDS]=$(said 'as N words of 32 bits \(`ROOM_SEAT_WORDS`')
+    [ROOM_STATE_WORDS]=$(said 'N words \(`ROOM_STATE_WORDS`')
+    [ROOM_TABLE_WORDS]=$(said 'as N words of 32 bits \(`ROOM_TABLE_WORDS`')
+    [ROOM_DESK_WORDS]=$(said 'as N words of 32 bits \(`ROOM_DESK_WORDS`')
 )
 # These are no sizes: they stand above the offices.
 held[ROOM_WAITS_MET]=${held[ROOM_OFFICES]} held[ROOM_WAITS_NOBODY]=$((held[ROOM_OFFICES] + 1))
 
 # The header has every size that is held, once and as one number, and no other.
+declare -A size=()
+decimal() { [[ $1 =~ ^[1-9][0-9]*$ ]]; }
 while read -r _ name value; do
     case $name in
     ROOM_H | ROOM_CALL | ROOM_NONNULL) continue ;;
     esac
+    holds "$name is one decimal number" decimal "$value"
     holds "$name is $value, and docs/LAYOUT.md has ${held[$name]:-nothing}" [ "$value" = "${held[$name]:-no}" ]
     unset "held[$name]"
+    decimal "$value" && size[$name]=$value
 done < <(grep -E '^# *define ' include/room.h)
 holds "sizes that include/room.h lacks: ${!held[*]}" [ "${#held[@]}" = 0 ]
 holds 'no #define of a number in include/room_words.h' [ "$(grep -cE '^# *define .* [0-9]' include/room_words.h)" = 0 ]
 
-# The names that are no sizes: the words of a seat and the kinds of a proposal.
-seat_word() { sed -nE "/^# The words of a seat/,\$s/^\| ([0-9]) \| $1.*/\1/p" docs/LAYOUT.md; }
-holds ROOM_SEAT_ITSELF [ "$(enumerated include/room.h ROOM_SEAT_ITSELF)" = "$(seat_word 'the seat,')" ]
-holds ROOM_SEAT_START [ "$(enumerated include/room.h ROOM_SEAT_START)" = "$(seat_word 'the last start number')" ]
-holds ROOM_SEAT_VIEW [ "$(enumerated include/room.h ROOM_SEAT_VIEW)" = "$(seat_word 'the last view number')" ]
-holds ROOM_SEAT_OPEN [ "$(enumerated include/room.h ROOM_SEAT_OPEN)" = "$(seat_word 'whether a change is open')" ]
+# made NAME FACTOR TIMES [ADDEND]: a size is a product, and a summand; each is a name or a number
+made() {
+    local name addend=${4:-0}
+    for name in "$@"; do decimal "$name" || decimal "${size[$name]:-}" || return 1; done
+    [ "${size[$1]}" -eq $((${size[$2]:-$2} * ${size[$3]:-$3} + ${size[$addend]:-$addend})) ]
+}
+while read -r name factor times addend; do
+    holds "$name is $factor x $times${addend:+ + $addend}" made "$name" "$factor" "$times" $addend
+done <<'END'
+ROOM_TABLE_WORDS ROOM_ROOMS ROOM_STATE_WORDS
+ROOM_DESK_WORDS ROOM_ROOMS 3 1
+ROOM_SEATS ROOM_OFFICES ROOM_OFFICE_SEATS
+ROOM_OUTPUT_BYTES 2 ROOM_PROPOSAL_BYTES ROOM_NOTICE_BYTES
+ROOM_SHEET_BYTES ROOM_SHEET_RECORDS ROOM_SYNC_BYTES
+ROOM_FILE_BYTES ROOM_FILE_MARKS ROOM_MARK_BYTES
+END
+
+# The places that are no sizes: the words of a desk, in the document and in the header's comment; tests/words.c holds
+# the code to them. And the room of the four records that have one.
+desk_word() { sed -nE "/^# The words of a desk/,\$s/^\| ([0-9]( \+ 3r)?) \| $1.*/\1/p" docs/LAYOUT.md; }
+desk_comment() { sed -nE "s/^ \*   ([0-9]( \+ 3r)?) +(in room r: +)?$1.*/\1/p" include/room.h; }
+desk_place() { [ "$(desk_word "$2"), $(desk_comment "$3")" = "$1, $1" ]; }
+holds 'the seat of a desk' desk_place 0 'the seat, 0 to 63' 'the seat, 0 to 63'
+holds 'the start number of a desk' desk_place '1 + 3r' 'the last start number' 'the last start number'
+holds 'the view number of a desk' desk_place '2 + 3r' 'the last view number' 'the last view number'
+holds 'whether a change is open at a desk' desk_place '3 + 3r' 'whether a change is open' '0 where no change is open'
+holds 'the room is byte 2 of four records' [ "$(grep -cE '^\| \| \| 2 \| 1 \| [^|]*\broom\b' docs/LAYOUT.md)" = 4 ]
+
+# The names that are no sizes: the kinds of a proposal, the marks.
 kinds=$(sed -nE 's/^enum room_proposal_kind \{ ROOM_FAST = ([0-9]), ROOM_SLOW = ([0-9]) \};/\1 fast, \2 slow/p' \
     include/room_words.h)
 holds 'ROOM_FAST and ROOM_SLOW' grep -qF "kind: ${kinds:-none} |" docs/LAYOUT.md

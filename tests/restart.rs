@@ -1,6 +1,6 @@
-// The calls for C that begin an office again from its file of high marks and that keep this file, beside the model
-// of change request 7: every answer, every word and every byte. Each case is a kind of input; it passes when the two
-// agree on all of its inputs.
+// The calls for C that begin an office again from its file of high marks and that keep this file, beside the model of
+// change requests 7 and 9: every answer, every word of all eight rooms and every byte. Each case is a kind of input;
+// it passes when the two agree on all of its inputs.
 #[path = "common/choice.rs"]
 mod choice;
 #[allow(dead_code)]
@@ -48,35 +48,35 @@ use choice::choice;
 use inputs::some;
 use lent::{around, AROUND, BYTE, WORD};
 use marks::{restart, Leave, Mark, BYTES, LONGEST, MARGIN, MOST};
-use model::L;
+use model::{L, ROOMS};
 use random::Random;
 use restart_calls::{room_last_mark, room_mark_before, room_restart};
-use restart_inputs::{damage, file, file_of, row_before, slowest, some_marks, tail, CHANGES};
-use restart_reached::{Reached, ROWS};
-use rows::WORDS;
+use restart_inputs::{damage, file, file_of, slowest, some_marks, table_before, tail, CHANGES};
+use restart_reached::{Reached, LENGTHS};
+use rows::{place, TABLE, WORDS};
 use std::ops::Range;
 
 // Inputs are files, each handed to two calls, and records that are to leave.
 type Tally = tally::Tally<Reached>;
 
 impl Tally {
-    // A part of some bytes is the file: how it is answered, and the row that is left, by the model.
+    // A part of some bytes is the file: how it is answered, and the words that are left, by the model.
     fn ask_part(&mut self, office: u8, all: &[u8], lent: Range<usize>, words: usize) -> (u8, Vec<u32>) {
         let (bytes, length) = (&all[lent.clone()], lent.len());
         let mark = self.reached.count_file(office, bytes, words);
-        let mut row = row_before(self.inputs, words);
-        let (mut left, mut handed) = (around(&row, WORD), all.to_vec());
-        let refusal = restart(office, mark, &mut row);
+        let mut table = table_before(self.inputs, words);
+        let (mut left, mut handed) = (around(&table, WORD), all.to_vec());
+        let refusal = restart(office, mark, &mut table);
         let last = mark.map_or(18, |n| 256 * n as u64);
         let (got, got_last) = unsafe {
             let start = handed.as_mut_ptr().add(lent.start);
             (room_restart(office, start, length, left.as_mut_ptr().add(AROUND), words), room_last_mark(start, length))
         };
-        let right_row = left == around(&row, WORD);
-        let same = got == refusal && got_last == last && right_row && handed == all;
+        let right = around(&table, WORD);
+        let same = got == refusal && got_last == last && left == right && handed == all;
         self.compared(same, || {
             let (front, back) = (&bytes[..length.min(30)], &bytes[length.saturating_sub(30)..]);
-            let differs = left.iter().zip(around(&row, WORD)).position(|(&l, r)| l != r);
+            let differs = left.iter().zip(right).position(|(&l, r)| l != r);
             let word = differs.map(|at| (at as isize - AROUND as isize, left[at]));
             let stays = handed == all;
             format!(
@@ -84,16 +84,16 @@ impl Tally {
                 {got_last:#x}, expected {refusal} and {last:#x}, first other word {word:?}, the file stays: {stays}"
             )
         });
-        (refusal, row)
+        (refusal, table)
     }
 
     fn ask(&mut self, office: u8, file: &[u8], words: usize) -> (u8, Vec<u32>) {
         self.ask_part(office, &around(file, BYTE), AROUND..AROUND + file.len(), words)
     }
 
-    // A file for a good office and a row of a state.
+    // A file for a good office and the words of a table.
     fn ask_file(&mut self, file: &[u8]) -> (u8, Vec<u32>) {
-        self.ask((self.inputs % 16) as u8, file, WORDS)
+        self.ask((self.inputs % 16) as u8, file, TABLE)
     }
 
     // A part of some bytes is what is to leave: the model's answer.
@@ -143,23 +143,20 @@ fn kinds_of_files() -> Vec<Vec<u8>> {
     ]
 }
 
-fn offices_and_rows(t: &mut Tally) {
+fn offices_and_words(t: &mut Tally) {
     let files = kinds_of_files();
-    t.case("files of every kind, offices about 15 and rows of 0 to 430 words", |t| {
-        for case in 0.. {
-            let mut rest = case;
-            let words = choice(&mut rest, &(0..ROWS).collect::<Vec<_>>());
-            let office = choice(&mut rest, &[0, 1, 7, 15, 16, 17, 128, 255]);
-            if rest == files.len() {
-                return;
+    t.case("files of every kind, offices about 15 and 0 to 3,300 words", |t| {
+        for (words, file) in (0..LENGTHS).flat_map(|words| files.iter().map(move |file| (words, file))) {
+            for office in [0, 15, 16, 255] {
+                t.ask(office, file, words);
             }
-            t.ask(office, &files[rest], words);
         }
     });
-    t.case("files of every kind, every office and rows about a state's length", |t| {
+    t.case("files of every kind, every office and words about a table's", |t| {
+        let others = [0, 1, 25, WORDS - 1, WORDS, WORDS + 1, 7 * WORDS, TABLE - 1, TABLE + 1, 9 * WORDS, 2 * TABLE];
         for case in 0.. {
             let mut rest = case;
-            let words = choice(&mut rest, &[WORDS, 0, WORDS, 1, WORDS, 4, WORDS, WORDS - 1, WORDS + 1, 2 * WORDS]);
+            let words = choice(&mut rest, &[&others[..], &[TABLE; 11]].concat());
             let office = choice(&mut rest, &(0..=255).collect::<Vec<_>>());
             if rest == files.len() {
                 return;
@@ -268,14 +265,15 @@ fn slow(t: &mut Tally) {
             let marks = file_of(numbers);
             for length in 0..BYTES {
                 let behind = tail(&mut r, numbers.last().copied(), length);
-                let (refusal, row) = t.ask_file(&[&marks[..], &behind].concat());
+                let (refusal, table) = t.ask_file(&[&marks[..], &behind].concat());
                 let good = count < MOST || length == 0;
                 let last = numbers.last().copied().unwrap_or(0);
-                right &= if good { refusal == 0 && row[rows::NUMBER] == last } else { refusal == 18 };
+                let begin = (0..ROOMS).all(|room| table[place(room)][rows::NUMBER] == last);
+                right &= if good { refusal == 0 && begin } else { refusal == 18 };
             }
         }
     });
-    t.verdicts.check("each slow file begins again at its last mark, and 2,001 marks with a tail get 18", right);
+    t.verdicts.check("all rooms begin at the last mark of a slow file, and 2,001 marks with a tail get 18", right);
 }
 
 // The last number of a file that ends at each place.
@@ -373,7 +371,7 @@ fn damaged(t: &mut Tally) {
                 damage(&mut r, &mut bytes);
             }
             let office = some(&mut r, &[0, 3, 15, 15, 9, 16]);
-            let words = some(&mut r, &[WORDS, WORDS, WORDS, 0, WORDS + 1]);
+            let words = some(&mut r, &[TABLE, TABLE, TABLE, 0, WORDS, TABLE + 1]);
             t.ask(office, &bytes, words);
         }
     });
@@ -404,7 +402,7 @@ fn parts(t: &mut Tally) {
                 let place = BYTES * r.below(all.len() / BYTES + 1);
                 let from = all.len().min(place + some(&mut r, &[0, 0, 0, 1, 5]));
                 let to = from + r.below(all.len() - from + 1);
-                t.ask_part(r.below(17) as u8, &all, from..to, WORDS);
+                t.ask_part(r.below(17) as u8, &all, from..to, TABLE);
             }
         }
     });
@@ -422,7 +420,7 @@ fn main() {
     parts(t);
     restart_records::all(t);
     restart_cuts::all(t);
-    offices_and_rows(t);
+    offices_and_words(t);
     slow(t);
     ends(t);
     every_place(t);

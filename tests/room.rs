@@ -1,6 +1,6 @@
-// The program `room` beside the model, on plays of several offices and on damaged, cut and long inputs. `trace`
-// prints the same lines with the bytes written behind them. Arguments: the two programs. A case passes when all of
-// its inputs agree; the first that does not is kept as target/tests/room.input.
+// The program `room` beside the model, on plays of several offices with their rooms interleaved and on damaged, cut
+// and long inputs. `trace` prints the same lines with the bytes written behind them. Arguments: the two programs. A
+// case passes when all of its inputs agree; the first that does not is kept as target/tests/room.input.
 #[allow(dead_code)]
 #[path = "common/model.rs"]
 mod model;
@@ -14,7 +14,7 @@ mod repeats;
 #[path = "common/self_use.rs"]
 mod self_use;
 
-use model::{program, report, Office, Proposal, FAST, L, ROOM, SLOW};
+use model::{program, room_of, Line, Office, Proposal, Table, CAPACITY, FAST, L, REPORT, ROOMS, SLOW};
 use play::{used_for_sender, Habits, Play};
 use random::Random;
 use repeats::{Reports, KINDS};
@@ -29,8 +29,8 @@ use std::sync::Mutex;
 
 const THREADS: usize = 2;
 
-// What was reached, by the model: refusals, lengths written at acceptance, views at each office, reports of each kind,
-// proposals handed in, those about check 19, and those written.
+// What was reached, by the model: refusals, lengths written at acceptance, views at each office and in each room,
+// reports of each kind, proposals handed in, those about check 19, and those written.
 #[derive(Clone, Default)]
 struct Reached {
     inputs: usize,
@@ -38,10 +38,70 @@ struct Reached {
     refusals: BTreeMap<u8, usize>,
     lengths: BTreeMap<usize, usize>,
     views: [usize; 16],
+    rooms: Rooms,
     reports: Reports,
     proposals: usize,
     self_uses: SelfUses,
     sent: Sent,
+}
+
+#[derive(Clone)]
+struct Rooms {
+    // refusals and views of each room
+    refusals: [[usize; 21]; ROOMS],
+    views: [usize; ROOMS],
+    // room bytes above 7, and those after which another record has its line
+    above: Vec<usize>,
+    goes_on: Vec<usize>,
+    // records of another room than the one before, and those whose line has another view number than room 0's
+    turns: usize,
+    apart: usize,
+    // 4, 5 and 20 where a room has a view, so that 0 is not the number of any
+    none: [usize; 3],
+}
+
+impl Default for Rooms {
+    fn default() -> Rooms {
+        let (refusals, bytes) = ([[0; 21]; ROOMS], vec![0; 256]);
+        Rooms { refusals, views: [0; ROOMS], above: bytes.clone(), goes_on: bytes, turns: 0, apart: 0, none: [0; 3] }
+    }
+}
+
+impl Rooms {
+    fn add(&mut self, other: &Rooms) {
+        fn each(all: &mut [usize], more: &[usize]) {
+            all.iter_mut().zip(more).for_each(|(n, more)| *n += more);
+        }
+        each(self.refusals.as_flattened_mut(), other.refusals.as_flattened());
+        each(&mut self.views, &other.views);
+        each(&mut self.above, &other.above);
+        each(&mut self.goes_on, &other.goes_on);
+        each(&mut self.none, &other.none);
+        self.turns += other.turns;
+        self.apart += other.apart;
+    }
+
+    // A line and the record before it.
+    fn count(&mut self, line: &Line, before: &[u8]) {
+        let all_views = line.table.rooms.iter().all(|office| office.view.number > 0);
+        match line.refusal {
+            4 | 5 => self.none[line.refusal as usize - 4] += all_views as usize,
+            20 => {
+                self.above[room_of(line.record) as usize] += 1;
+                self.none[2] += all_views as usize;
+            }
+            refusal => {
+                let room = room_of(line.record) as usize;
+                self.refusals[room][refusal as usize] += 1;
+                self.views[room] += line.bytes.windows(2).any(|w| w == b"VW") as usize;
+                self.apart += (line.view_number != line.table.rooms[0].view.number) as usize;
+            }
+        }
+        if let [_, _, last, ..] = before {
+            self.turns += line.record.get(2).is_some_and(|room| room != last) as usize;
+            self.goes_on[*last as usize] += 1;
+        }
+    }
 }
 
 impl Reached {
@@ -57,6 +117,7 @@ impl Reached {
         for (office, n) in other.views.iter().enumerate() {
             self.views[office] += n;
         }
+        self.rooms.add(&other.rooms);
         self.reports.add(&other.reports);
         self.proposals += other.proposals;
         self.self_uses.add(&other.self_uses);
@@ -73,28 +134,35 @@ struct Expected {
 fn expected(input: &[u8], reached: &mut Reached) -> Expected {
     let mut e = Expected { lines: String::new(), traced: String::new() };
     reached.inputs += 1;
-    reached.reports.last.clear();
-    let mut before = Office::fresh(input.first().map_or(0, |&own| own as usize));
+    reached.reports.last = Default::default();
+    let mut before = Table::fresh(input.first().map_or(0, |&own| own as usize));
+    let mut last = Vec::new();
     program(&mut &input[..], |line| {
         let count = line.bytes.len();
         reached.records += 1;
-        // a report that passed checks 4 and 5
-        if line.record.len() == 18 && [0, 13].contains(&line.refusal) {
-            let nothing = line.refusal == 0 && count == 0 && *line.office == before;
-            reached.reports.count(&before, line.record, nothing);
+        if line.refusal != 1 {
+            reached.rooms.count(&line, &last);
         }
-        if line.record.len() == 84 {
-            reached.proposals += 1;
-            reached.self_uses.count(&before, line.record, line.refusal);
+        last = line.record.to_vec();
+        let there = line.record.get(2).and_then(|&room| before.rooms.get(room as usize));
+        // what passed checks 4, 5 and 20
+        if let (Some(there), false) = (there, [4, 5].contains(&line.refusal)) {
+            if line.record.len() == REPORT {
+                let nothing = line.refusal == 0 && count == 0 && *line.table == before;
+                reached.reports.count(there, line.record, nothing);
+            } else {
+                reached.proposals += 1;
+                reached.self_uses.count(there, line.record, line.refusal);
+            }
         }
         reached.sent.count(line.bytes);
-        before = *line.office;
+        before = line.table.clone();
         *reached.refusals.entry(line.refusal).or_default() += 1;
         if line.refusal == 0 {
             *reached.lengths.entry(count).or_default() += 1;
             reached.views[input[0] as usize] += line.bytes.windows(2).any(|w| w == b"VW") as usize;
         }
-        let text = format!("{} {} {count} {}", line.number, line.refusal, line.office.view.number);
+        let text = format!("{} {} {count} {}", line.number, line.refusal, line.view_number);
         writeln!(e.lines, "{text}").unwrap();
         e.traced += &text;
         if count > 0 {
@@ -244,9 +312,20 @@ fn some_play(random: &mut Random, habits: Habits, records: usize) -> Play {
         let all: Vec<usize> = model::offices(pool).collect();
         all[random.below(all.len())]
     };
-    let mut play = Play::new(Random(random.next() | 1), habits, pool, kept);
+    let rooms = some_rooms(random);
+    let mut play = Play::new(Random(random.next() | 1), habits, pool, kept, &rooms);
     play.go(records);
     play
+}
+
+// One room, two, or all.
+fn some_rooms(random: &mut Random) -> Vec<u8> {
+    let any = random.below(ROOMS) as u8;
+    match random.below(4) {
+        0 => vec![any],
+        1 => vec![any, (any + 1 + random.below(ROOMS - 1) as u8) % ROOMS as u8],
+        _ => (0..ROOMS as u8).collect(),
+    }
 }
 
 fn calm(random: &mut Random) -> Habits {
@@ -260,6 +339,7 @@ fn calm(random: &mut Random) -> Habits {
         swap: rates[random.below(3)],
         forged: 0,
         damaged: 0,
+        stray: rates[random.below(3)],
     }
 }
 
@@ -276,20 +356,23 @@ fn a_play(random: &mut Random, habits: fn(&mut Random) -> Habits, records: usize
     some_play(random, habits, records).input
 }
 
-// The numbers near L: an office hears of one, and goes on.
+// The numbers near L: an office hears of one in some rooms, and goes on.
 fn near_the_ceiling(random: &mut Random) -> Vec<u8> {
     let habits = forging(random);
     let begun = random.below(10);
     let mut play = some_play(random, habits, begun);
-    let o = *play.office();
-    for sender in model::offices(o.net).filter(|&k| k != o.own) {
-        let near = |random: &mut Random| [1, L - random.below(3) as u32, L][random.below(3)];
-        let (start, number) = (near(random), near(random));
-        let mut used = [0; 16];
-        used[sender] = [0, L][random.below(2)];
-        used[sender] = used_for_sender(random, number, used[sender]);
-        let kind = [FAST, SLOW][random.below(2)];
-        play.hand(o.own, &Proposal { sender: sender as u8, kind, members: o.net, start, number, used }.bytes());
+    for room in (0..ROOMS as u8).step_by(1 + random.below(3)) {
+        let o = *play.office(room);
+        for sender in model::offices(o.net).filter(|&k| k != o.own) {
+            let near = |random: &mut Random| [1, L - random.below(3) as u32, L][random.below(3)];
+            let (start, number) = (near(random), near(random));
+            let mut used = [0; 16];
+            used[sender] = [0, L][random.below(2)];
+            used[sender] = used_for_sender(random, number, used[sender]);
+            let kind = [FAST, SLOW][random.below(2)];
+            let p = Proposal { sender: sender as u8, kind, members: o.net, start, number, used };
+            play.hand(o.own, &p.bytes(room));
+        }
     }
     play.go(begun + 4 + random.below(40));
     play.input
@@ -308,7 +391,7 @@ fn spoiled(random: &mut Random) -> Vec<u8> {
         2 => {
             let mark = [*b"NE", *b"PR", *b"SC", *b"VW", *b"EN", *b"RP"][random.below(6)];
             input.extend(mark);
-            let length = [random.below(90), 12, 16, 76, 82][random.below(5)];
+            let length = [random.below(90), 13, 17, 77, 83][random.below(5)];
             input.extend(random.bytes(length));
         }
         3 => {
@@ -323,6 +406,38 @@ fn spoiled(random: &mut Random) -> Vec<u8> {
     input
 }
 
+// A view in each room of an office, and reports of one room byte between them.
+fn each_room_byte(random: &mut Random, byte: u8) -> Vec<u8> {
+    let own = random.below(16);
+    let mut input = vec![own as u8];
+    for room in 0..ROOMS as u8 {
+        for _ in 0..1 + random.below(2) {
+            let seats = random.next() & 15 << (4 * own) | 1 << (4 * own);
+            input.extend(in_room(room, report(seats, 0)));
+            input.extend(in_room(byte, report(random.next(), random.next())));
+            input.extend(in_room(room, report(0, seats & seats - 1)));
+        }
+    }
+    input
+}
+
+// A view in each room, then what gets 4, 5 or 20.
+fn all_have_views(random: &mut Random, case: usize) -> Vec<u8> {
+    let own = random.below(16);
+    let mut input = vec![own as u8];
+    for room in 0..ROOMS as u8 {
+        input.extend(in_room(room, report(1 << (4 * own), 0)));
+    }
+    let room = random.below(ROOMS) as u8;
+    match case % 4 {
+        0 => input.extend(in_room(8 + random.below(248) as u8, report(random.next(), 0))),
+        1 => input.extend(&in_room(room, report(random.next(), 0))[..2 + random.below(17)]),
+        2 => input.extend(in_room(room, notice(1, 1 << (4 * own)))),
+        _ => input.extend([&b"PR"[..], &[room][..random.below(2)]].concat()),
+    }
+    input
+}
+
 fn random_bytes(random: &mut Random) -> Vec<u8> {
     let length = 1 + random.below(300);
     let mut input = random.bytes(length);
@@ -331,6 +446,9 @@ fn random_bytes(random: &mut Random) -> Vec<u8> {
     while at + 2 <= input.len() && random.below(6) != 0 {
         let mark = [*b"NE", *b"PR"][random.below(2)];
         input[at..at + 2].copy_from_slice(&mark);
+        if let Some(room) = input.get_mut(at + 2) {
+            *room %= 9;
+        }
         at += model::mark_length(&mark).unwrap();
     }
     input
@@ -340,24 +458,34 @@ fn random_bytes(random: &mut Random) -> Vec<u8> {
 fn p(kind: u8, start: u32, number: u32, used_0: u32, used_1: u32) -> Vec<u8> {
     let mut used = [0; 16];
     (used[0], used[1]) = (used_0, used_1);
-    Proposal { sender: 1, kind, members: 0x11, start, number, used }.bytes()
+    Proposal { sender: 1, kind, members: 0x11, start, number, used }.bytes(0)
 }
 
 // Own proposals of the worked days: sender 0, members {0, 4}.
 fn own(kind: u8, start: u32, number: u32, used_0: u32, used_1: u32) -> Vec<u8> {
     let mut record = p(kind, start, number, used_0, used_1);
-    record[2] = 0;
+    record[3] = 0;
     record
 }
 
+// The days are in room 0 unless a room is named.
+fn report(joining: u64, leaving: u64) -> Vec<u8> {
+    [&b"NE\0"[..], &joining.to_be_bytes(), &leaving.to_be_bytes()].concat()
+}
+
 fn notice(start: u32, members: u64) -> Vec<u8> {
-    [&b"SC"[..], &start.to_be_bytes(), &members.to_be_bytes()].concat()
+    [&b"SC\0"[..], &start.to_be_bytes(), &members.to_be_bytes()].concat()
 }
 
 fn view(number: u32, members: u64, start_0: u32, start_1: u32) -> Vec<u8> {
     let head =
-        [&b"VW"[..], &number.to_be_bytes(), &members.to_be_bytes(), &start_0.to_be_bytes(), &start_1.to_be_bytes()];
+        [&b"VW\0"[..], &number.to_be_bytes(), &members.to_be_bytes(), &start_0.to_be_bytes(), &start_1.to_be_bytes()];
     [&head.concat()[..], &[0; 56]].concat()
+}
+
+fn in_room(room: u8, mut record: Vec<u8>) -> Vec<u8> {
+    record[2] = room;
+    record
 }
 
 // A day at office 0: the records, and what the last is answered.
@@ -400,7 +528,7 @@ fn worked_days() -> Vec<Day> {
         day(&vec![p(FAST, 1, L + 1, 0, 0)], 8, &[]),
         day(&m, 0, &[]),
         day(&after(&m, report(0x10, 0)), 0, &[]),
-        day(&vec![report(0x01, 0)[..17].to_vec()], 5, &[]),
+        day(&vec![report(0x01, 0)[..18].to_vec()], 5, &[]),
         day(&vec![[&report(0x01, 0)[..], &[0]].concat()], 5, &[]),
         day(&vec![vec![]], 4, &[]),
         day(&after(&g, p(FAST, 4, 9, 2, 1)), 0, &[]),
@@ -454,15 +582,42 @@ fn days_of_self_uses() -> Vec<Day> {
     ]
 }
 
+// Rooms beside each other; each goes on as if the others were not there.
+fn days_of_rooms() -> Vec<Day> {
+    let mut all = Vec::new();
+    for room in 0..ROOMS as u8 {
+        let in_it = |record| in_room(room, record);
+        let a = vec![in_it(report(0x01, 0))];
+        let b = after(&a, in_it(report(0x10, 0)));
+        let next = (room + 3) % 8;
+        let beside = after(&b, in_room(next, report(0x11, 0)));
+        let c = after(&beside, in_it(p(FAST, 1, 1, 0, 0)));
+        let above = after(&b, in_room(8 + 31 * room, p(FAST, 1, 1, 0, 0)));
+        let started = in_room(next, notice(1, 0x11));
+        all.extend([
+            day(&a, 0, &[in_it(notice(1, 0x01)), in_it(view(2, 0x01, 1, 0))]),
+            day(&b, 0, &[in_it(notice(2, 0x11)), in_it(own(FAST, 2, 2, 1, 0))]),
+            day(&beside, 0, &[started, in_room(next, own(FAST, 1, 1, 0, 0))]),
+            day(&c, 0, &[in_it(view(3, 0x11, 2, 1))]),
+            day(&after(&c, in_room(next, p(FAST, 1, 1, 0, 0))), 0, &[in_room(next, view(2, 0x11, 1, 1))]),
+            day(&above, 20, &[]),
+            day(&after(&above, in_it(p(FAST, 1, 1, 0, 0))), 0, &[in_it(view(3, 0x11, 2, 1))]),
+            day(&after(&b, in_room(255, report(0, 0))), 20, &[]),
+            day(&after(&b, in_room(8, report(0x01, 0))[..18].to_vec()), 5, &[]),
+        ]);
+    }
+    all
+}
+
 fn all_days() -> Vec<Day> {
-    [worked_days(), days_of_repeats(), days_of_self_uses()].concat()
+    [worked_days(), days_of_repeats(), days_of_self_uses(), days_of_rooms()].concat()
 }
 
 fn model_on_worked_days() -> bool {
     all_days().into_iter().all(|(records, refusal, written)| {
-        let mut office = Office::fresh(0);
+        let mut table = Table::fresh(0);
         let mut out = Vec::new();
-        let answers: Vec<u8> = records.iter().map(|record| office.step(record, ROOM, &mut out)).collect();
+        let answers: Vec<u8> = records.iter().map(|record| table.step(record, CAPACITY, &mut out)).collect();
         *answers.last().unwrap() == refusal && out == written
     })
 }
@@ -473,9 +628,13 @@ fn model_on_checks_2_and_3() -> bool {
     let mut above = [Office::fresh(16), Office::fresh(0), Office::fresh(0)];
     above[1].accepted[15] = L + 1;
     above[2].stored[7] = Some(Proposal { sender: 7, kind: FAST, members: 0, start: L + 1, number: 0, used: [0; 16] });
-    above.iter_mut().all(|o| o.step(&record, 0, &mut out) == 2)
-        && Office::fresh(15).step(&[], ROOM - 1, &mut out) == 3
-        && Office::fresh(15).step(&record, ROOM, &mut out) == 0
+    let mut step = |table: &mut Table, record: &[u8], capacity| table.step(record, capacity, &mut out);
+    (0..3 * ROOMS).all(|k| {
+        let mut table = Table::fresh(0);
+        table.rooms[k / 3] = above[k % 3];
+        step(&mut table, &record, 0) == 2
+    }) && step(&mut Table::fresh(15), &[], CAPACITY - 1) == 3
+        && step(&mut Table::fresh(15), &record, CAPACITY) == 0
 }
 
 fn long_plays(t: &mut Tests) {
@@ -498,10 +657,10 @@ fn reached(t: &mut Tests) {
     println!("lengths: {:?}", all.lengths);
     println!("views at each office: {:?}", all.views);
     t.check("20,000 inputs", all.inputs >= 20_000);
-    for refusal in [0, 1, 4, 5, 6, 7, 8, 9, 10, 11, 12, 13, 19] {
+    for refusal in [0, 1, 4, 5, 6, 7, 8, 9, 10, 11, 12, 13, 19, 20] {
         t.check(&format!("refusal {refusal} reached"), all.refusals.contains_key(&refusal));
     }
-    for length in [0, 78, 84, 92, 98, 162, 176, 182] {
+    for length in [0, 79, 85, 94, 100, 164, 179, 185] {
         t.check(&format!("{length} bytes written"), all.lengths.contains_key(&length));
     }
     t.check("views at every office", all.views.iter().all(|&n| n > 0));
@@ -513,7 +672,28 @@ fn reached(t: &mut Tests) {
         println!("{kind}: {n}");
         t.check(kind, n > 0);
     }
+    rooms_reached(t);
     self_uses_reached(t);
+}
+
+fn rooms_reached(t: &mut Tests) {
+    let rooms = t.all.rooms.clone();
+    println!("views in each room: {:?}", rooms.views);
+    t.check("1000 views in every room", rooms.views.iter().all(|&n| n >= 1000));
+    for refusal in [0, 6, 7, 8, 9, 10, 11, 12, 13, 19] {
+        let least = rooms.refusals.iter().map(|n| n[refusal]).min().unwrap();
+        println!("answer {refusal}, of the room with fewest: {least}");
+        t.check(&format!("answer {refusal} in every room, 20 times"), least >= 20);
+    }
+    println!("another room than before: {}, another view number than room 0's: {}", rooms.turns, rooms.apart);
+    t.check("rooms take turns", rooms.turns >= 100_000);
+    t.check("lines with another view number than room 0's", rooms.apart >= 50_000);
+    let (above, goes_on) = (&rooms.above[ROOMS..], &rooms.goes_on[ROOMS..]);
+    let [fewest, then] = [above, goes_on].map(|all| all.iter().min().unwrap());
+    println!("20, of the byte with fewest: {fewest}, a line after it: {then}");
+    t.check("20 for every room byte above 7, and the run goes on", above.iter().chain(goes_on).all(|&n| n > 0));
+    println!("4, 5 and 20 where every room has a view: {:?}", rooms.none);
+    t.check("4, 5 and 20 print no view number where every room has one", rooms.none.iter().all(|&n| n >= 20));
 }
 
 fn self_uses_reached(t: &mut Tests) {
@@ -548,6 +728,8 @@ fn main() {
         let all = report(u64::MAX, 0);
         [&[k as u8][..], &all, &all].concat()
     });
+    t.case("each room byte, then the rooms go on", 256, Way::File, |r, k| each_room_byte(r, k as u8));
+    t.case("what ends a run in which every room has a view", 200, Way::File, |r, k| all_have_views(r, k));
     let before = t.all.clone();
     t.case("plays", 7000, Way::File, |r, _| {
         let records = 1 + r.below(100);

@@ -1,4 +1,4 @@
-// The calls for C that make a sync record and ask who came along, beside the model of change request 4: every
+// The calls for C that make a sync record and ask who came along, beside the model of change requests 4 and 9: every
 // answer, every byte and every word. Each case is a kind of input; it passes when the two agree on all of its inputs.
 #[path = "common/choice.rs"]
 mod choice;
@@ -47,13 +47,14 @@ mod verdicts;
 use choice::choice;
 use inputs::some;
 use lent::{around, AROUND, BYTE, WORD};
-use model::{View, L};
+use model::{notice, View, L, ROOMS, VIEW};
 use random::Random;
-use seat::notice;
+use seat::{place, WORDS};
 use sheet::{bytes, Answer, Sync, BYTES, MOST};
-use sheet_calls::{room_came_along, room_seat_sync};
+use sheet_calls::{room_came_along, room_desk_sync};
 use sheet_inputs::{
-    add_beside, among, counted, damage, other, put, seats, some_members, some_number, some_view, whole, Asked, BAD,
+    add_beside, among, counted, damage, other, put, room_above, seats, some_members, some_number, some_room, some_view,
+    whole, Asked, BAD,
 };
 use sheet_reached::Reached;
 use std::ops::Range;
@@ -77,21 +78,22 @@ impl Part<'_> {
 type Tally = tally::Tally<Reached>;
 
 impl Tally {
-    // The sync record of a desk with these words, in an output with these bytes: what the call wrote.
-    fn make(&mut self, words: &[u32], out: &[u8]) -> Option<Sync> {
-        self.reached.count_made(words, out.len());
+    // The sync record of a desk with these words in a room, in an output with these bytes: what the call wrote.
+    fn make(&mut self, words: &[u32], room: u8, out: &[u8]) -> Option<Sync> {
+        self.reached.count_made(words, room, out.len());
         let (mut desk, mut left, mut expected) = (around(words, WORD), around(out, BYTE), around(out, BYTE));
-        let (written, place) = (sheet::made(words, out.len()), AROUND..AROUND + BYTES);
+        let (written, place) = (sheet::made(words, room, out.len()), AROUND..AROUND + BYTES);
         if let Some(record) = written {
             expected[place.clone()].copy_from_slice(&record.bytes());
         }
         let got = unsafe {
-            room_seat_sync(desk.as_mut_ptr().add(AROUND), words.len(), left.as_mut_ptr().add(AROUND), out.len())
+            let (words_at, out_at) = (desk.as_mut_ptr().add(AROUND), left.as_mut_ptr().add(AROUND));
+            room_desk_sync(words_at, words.len(), room, out_at, out.len())
         };
         let same = got == written.map_or(0, |_| BYTES) && left == expected && desk == around(words, WORD);
         self.compared(same, || {
             format!(
-                "words {words:?}, room {}: got {got} and {:02x?}, expected {written:?}",
+                "words {words:?}, room {room}, {} bytes: got {got} and {:02x?}, expected {written:?}",
                 out.len(),
                 &left[AROUND..]
             )
@@ -126,8 +128,14 @@ impl Tally {
         self.ask_parts(Part { all: &sheets, lent: lent(sheet) }, Part { all: &views, lent: lent(view) }, own)
     }
 
+    // The view is of each room in turn.
+    fn ask_sheet(&mut self, sheet: &[u8], view: &View, own: u32) -> Answer {
+        let room = (self.inputs % ROOMS as u64) as u8;
+        self.ask(sheet, &view.bytes(room), own)
+    }
+
     fn ask_of(&mut self, records: &[Sync], view: &View, own: u32) -> Answer {
-        self.ask(&bytes(records), &view.bytes(), own)
+        self.ask_sheet(&bytes(records), view, own)
     }
 }
 
@@ -135,37 +143,41 @@ impl Tally {
 
 const EDGES: [u32; 6] = [0, 1, L - 1, L, L + 1, u32::MAX];
 
+// The rooms in turn, and some above them.
+const EDGE_ROOMS: [u8; 11] = [0, 1, 2, 3, 4, 5, 6, 7, 8, 128, 255];
+
 fn making(t: &mut Tally) {
-    t.case("sync records of every seat, edge numbers and rooms about 11", |t| {
+    t.case("sync records of every seat, edge numbers in each room in turn, outputs about 11", |t| {
         let mut r = Random(1);
         let seats: Vec<u32> = (0..=70).chain([127, 128, 255, 256, 256 + 63, 1 << 16, 1 << 31, u32::MAX]).collect();
         for case in 0.. {
-            let mut rest = case;
+            let (mut rest, room) = (case, EDGE_ROOMS[case % EDGE_ROOMS.len()]);
             let seat = choice(&mut rest, &seats);
             let (start, previous) = (choice(&mut rest, &EDGES), choice(&mut rest, &EDGES));
-            let (open, room) = (choice(&mut rest, &[0, 1, u32::MAX]), choice(&mut rest, &[11, 12, 10, 0]));
+            let (open, capacity) = (choice(&mut rest, &[0, 1, u32::MAX]), choice(&mut rest, &[11, 12, 10, 0]));
             if rest != 0 {
                 return;
             }
-            let out = r.bytes(room);
-            t.make(&[seat, start, previous, open], &out);
+            let (mut words, out) = ([0; WORDS].map(|_| r.next() as u32), r.bytes(capacity));
+            words[0] = seat;
+            words[place(room as usize % ROOMS)].copy_from_slice(&[start, previous, open]);
+            t.make(&words, room, &out);
         }
     });
-    t.case("sync records in 0 to 8 words and every room from 0 to 40", |t| {
+    t.case("sync records in 0 to 33 words, every byte of a room and outputs of 0 to 40 bytes", |t| {
         let mut r = Random(2);
         for case in 0.. {
             let mut rest = case;
-            let (room, length) = (
-                choice(&mut rest, &(0..=40).collect::<Vec<_>>()),
-                choice(&mut rest, &[0, 1, 2, 3, 4, 4, 4, 4, 5, 6, 7, 8]),
-            );
-            if rest == 10 {
+            let capacity = choice(&mut rest, &(0..=40).collect::<Vec<_>>());
+            let length = choice(&mut rest, &(0..=33).chain([WORDS; 30]).collect::<Vec<_>>());
+            if rest == 20 {
                 return;
             }
             let mut words: Vec<u32> = (0..length).map(|_| r.next() as u32).collect();
             words.iter_mut().take(1).for_each(|seat| *seat %= 66);
-            let out = r.bytes(room);
-            t.make(&words, &out);
+            let (room, out) = (some_room(&mut r), r.bytes(capacity));
+            t.make(&words, room, &out);
+            t.make(&words, case as u8, &out);
         }
     });
 }
@@ -175,7 +187,7 @@ fn making(t: &mut Tally) {
 fn marks(t: &mut Tally) {
     let mut r = Random(3);
     let view = some_view(&mut r, 0x8000_0000_0010_0003);
-    let (view, sheet) = (view.bytes(), bytes(&whole(&mut r, &view, 7)));
+    let (view, sheet) = (view.bytes(3), bytes(&whole(&mut r, &view, 7)));
     t.case("every mark of a view", |t| {
         for mark in 0..=u16::MAX {
             t.ask(&sheet, &[&mark.to_be_bytes()[..], &view[2..]].concat(), 7);
@@ -347,7 +359,7 @@ fn numbers(t: &mut Tally) {
             if rest != 0 {
                 return;
             }
-            t.ask(&sheet, &view.bytes(), own);
+            t.ask_sheet(&sheet, &view, own);
         }
     });
 }
@@ -369,14 +381,52 @@ fn layouts(t: &mut Tally) {
             if rest != 0 {
                 return;
             }
-            let mut cut = [&mark[..], &view.bytes()[2..]].concat();
+            let room = EDGE_ROOMS[case % EDGE_ROOMS.len()];
+            let mut cut = [&mark[..], &view.bytes(room)[2..]].concat();
             cut.resize(length, 0);
             t.ask(&sheet, &cut, own);
             if length < 4 {
-                t.ask(&sheet, &notice(2, view.members), own);
+                t.ask(&sheet, &notice(room, 2, view.members), own);
             }
         }
     });
+}
+
+// Ways in which the view of seats 0, 1 and 4 is refused beside its room, and three in which it is not.
+const VIEWS: [fn(&mut Vec<u8>); 9] = [
+    |_| (),
+    |view| put(view, 3, L),
+    |view| view[14] = 0x33,
+    |view| put(view, 3, L + 1),
+    |view| put(view, 19, u32::MAX),
+    |view| put(view, 23, 1),
+    |view| view.truncate(78),
+    |view| view.push(0),
+    |view| view[1] = 0x43,
+];
+
+fn rooms(t: &mut Tally) {
+    let mut right = true;
+    t.case("every byte of a view's room, with views and sheets of all kinds", |t| {
+        let mut r = Random(19);
+        let mut starts = [0; 16];
+        starts[..2].copy_from_slice(&[2, 1]);
+        let view = View { number: 3, members: 0x13, starts };
+        let records = whole(&mut r, &view, 2);
+        for case in 0..VIEWS.len() * 2 * 15 {
+            let mut rest = case;
+            let (change, own) = (choice(&mut rest, &VIEWS), choice(&mut rest, &[2, L + 1]));
+            let sheet = a_kind_of_sheet(&records, &mut rest);
+            let mut answers = Vec::new();
+            for room in 0..=255 {
+                let mut changed = view.bytes(room);
+                change(&mut changed);
+                answers.push(t.ask(&sheet, &changed, own));
+            }
+            right &= answers[..ROOMS].iter().all(|&answer| answer == answers[0]);
+        }
+    });
+    t.verdicts.check("the same view and sheet are answered alike in every room", right);
 }
 
 // Damage
@@ -388,7 +438,8 @@ fn a_question(random: &mut Random) -> Asked {
     let mut records = whole(random, &view, own);
     let times = random.below(3);
     add_beside(random, &mut records, &view, own, times);
-    Asked { sheet: bytes(&records), view: view.bytes(), own }
+    let room = if random.below(12) == 0 { room_above(random) } else { some_room(random) };
+    Asked { sheet: bytes(&records), view: view.bytes(room), own }
 }
 
 fn flips(t: &mut Tally) {
@@ -419,14 +470,15 @@ fn damaged(t: &mut Tally) {
     t.case("random bytes under the right marks", |t| {
         let mut r = Random(14);
         for _ in 0..20_000 {
-            let (mut sheet, mut view) = (Vec::new(), r.bytes(78));
+            let (mut sheet, mut view) = (Vec::new(), r.bytes(VIEW));
             for _ in 0..r.below(6) {
                 sheet.extend([0x53, 0x59, r.below(70) as u8]);
                 sheet.extend(r.bytes(8));
             }
             view[..2].copy_from_slice(b"VW");
+            view[2] = if r.below(4) == 0 { view[2] } else { some_room(&mut r) };
             let kept = r.below(4);
-            (0..16).skip(kept).for_each(|office| put(&mut view, 14 + 4 * office, 0));
+            (0..16).skip(kept).for_each(|office| put(&mut view, 15 + 4 * office, 0));
             let own = r.next() as u32;
             t.ask(&sheet, &view, own);
         }
@@ -447,8 +499,9 @@ fn parts(t: &mut Tally) {
                     &mut r,
                     &[whole, whole, whole, whole.saturating_sub(1).max(from), (whole + 1).min(sheet.len())],
                 );
-                let length = some(&mut r, &[78, 78, 78, 0, 1, 77, 79]);
-                t.ask_parts(Part { all: &sheet, lent: from..to }, Part { all: &views, lent: 78..78 + length }, own);
+                let length = some(&mut r, &[VIEW, VIEW, VIEW, 0, 1, 2, 3, VIEW - 1, VIEW + 1]);
+                let lent = VIEW..VIEW + length;
+                t.ask_parts(Part { all: &sheet, lent: from..to }, Part { all: &views, lent }, own);
             }
         }
     });
@@ -468,6 +521,7 @@ fn main() {
     full_sheets::all(t);
     numbers(t);
     layouts(t);
+    rooms(t);
     flips(t);
     damaged(t);
     parts(t);

@@ -1,5 +1,6 @@
-// The calls for C that make, change and ask a state or write a report, beside the model: every answer, every word and
-// every byte. Each case is a kind of input; it passes when the two agree on all of its inputs.
+// The calls for C that make, change and ask a table of rooms or write a report, beside the model: every answer, every
+// word of all eight rows and every byte. Each case is a kind of input; it passes when the two agree on all of its
+// inputs.
 #[path = "common/inputs.rs"]
 mod inputs;
 #[path = "common/lent.rs"]
@@ -33,13 +34,13 @@ mod sixteen;
 #[path = "common/verdicts.rs"]
 mod verdicts;
 
-use inputs::{a_play, change, some};
+use inputs::{a_play, a_play_in, bad_words, change, make_sound, some, some_row, some_table, ROWS};
 use lent::{AROUND, BYTE, WORD};
-use model::{offices, report, Proposal, FAST, L, ROOM, SLOW};
+use model::{offices, report, room_of, Proposal, CAPACITY, FAST, L, PROPOSAL, REPORT, ROOMS, SLOW};
 use play::used_for_sender;
 use random::Random;
 use repeats::{repeat, Reports, KINDS};
-use rows::WORDS;
+use rows::{place, TABLE, WORDS};
 use self_use::{SelfUses, Sent};
 use self_use_inputs::{Asked, FAULTS, RELATIONS};
 use sixteen::{Met, Sixteen};
@@ -47,29 +48,39 @@ use verdicts::Verdicts;
 
 #[link(name = "room", kind = "static")]
 extern "C" {
-    fn room_fresh(office: u8, state: *mut u32, words: usize) -> u8;
-    fn room_step(state: *mut u32, words: usize, record: *const u8, length: usize, out: *mut u8, room: usize) -> u32;
+    fn room_fresh(office: u8, table: *mut u32, words: usize) -> u8;
+    fn room_step(table: *mut u32, words: usize, record: *const u8, length: usize, out: *mut u8, capacity: usize)
+        -> u32;
 }
 
-// The answers that can come; 1 is for a state that is made.
-const ANSWERS: [usize; 14] = [0, 2, 3, 4, 5, 6, 7, 8, 9, 10, 11, 12, 13, 19];
+// The answers that can come; 1 is for a table that is made.
+const ANSWERS: [usize; 15] = [0, 2, 3, 4, 5, 6, 7, 8, 9, 10, 11, 12, 13, 19, 20];
+// Those that a room's own row decides.
+const OF_ROOM: [usize; 10] = [0, 6, 7, 8, 9, 10, 11, 12, 13, 19];
+const EIGHT: [u8; ROOMS] = [0, 1, 2, 3, 4, 5, 6, 7];
 
 // What was met, by the model: each answer, and what the proposals said of themselves.
 #[derive(Default)]
 struct Reached {
-    answers: [u64; 20],
+    answers: [u64; 21],
+    // by the room of the record
+    rooms: [[u64; 21]; ROOMS],
     self_uses: SelfUses,
     // a proposal that claims to have used itself, answered 2, and answered 3 where nothing else is wrong with it
     early: [u64; 2],
-    // rows with a view, and rows answered 2 with a number above 0 in the place of its number
-    views: [u64; 2],
+    // rooms asked for their view: those that have one, those with a number above 0 in its place in a table answered 2,
+    // and those above 7
+    views: [u64; 3],
 }
 
 struct Compared<'a> {
-    row: Vec<u32>,
+    table: Vec<u32>,
     expected: Vec<u32>,
     out: Vec<u8>,
     written: Vec<u8>,
+    // a table that passes check 2, for the rooms that nobody asks for
+    others: Vec<u32>,
+    random: Random,
     inputs: u64,
     wrong: u64,
     reached: &'a mut Reached,
@@ -78,105 +89,139 @@ struct Compared<'a> {
 }
 
 impl Compared<'_> {
-    // One record on a row, with an output of a length: both answers, and the row as both leave it. The row stays in
-    // `row` with the words around it.
-    fn hand(&mut self, record: &[u8], room: usize) -> u8 {
-        let words = self.row.len() - 2 * AROUND;
+    // One record on a table, with an output of a length: both answers, and every word as both leave it. The table
+    // stays in `table` with the words around it.
+    fn hand(&mut self, record: &[u8], capacity: usize) -> u8 {
+        let words = self.table.len() - 2 * AROUND;
         let lent = AROUND..AROUND + words;
-        self.expected.clone_from(&self.row);
-        let refusal = rows::step(&mut self.expected[lent], record, room, &mut self.written);
+        self.expected.clone_from(&self.table);
+        let refusal = rows::step_table(&mut self.expected[lent], record, capacity, &mut self.written);
         let answer = 256 * self.written.len() as u32 + refusal as u32;
         self.count(record, refusal);
-        let view = self.asks_view(refusal);
+        let view = self.asks_view(record, refusal);
 
         self.out.clear();
-        self.out.resize(room + 2 * AROUND, BYTE);
+        self.out.resize(capacity + 2 * AROUND, BYTE);
         let kept = record.to_vec();
         let got = unsafe {
-            let (state, out) = (self.row.as_mut_ptr().add(AROUND), self.out.as_mut_ptr().add(AROUND));
-            room_step(state, words, record.as_ptr(), record.len(), out, room)
+            let (table, out) = (self.table.as_mut_ptr().add(AROUND), self.out.as_mut_ptr().add(AROUND));
+            room_step(table, words, record.as_ptr(), record.len(), out, capacity)
         };
         let end = AROUND + self.written.len();
         let bytes = self.out[AROUND..end] == self.written[..]
             && self.out[..AROUND].iter().chain(&self.out[end..]).all(|&b| b == BYTE);
-        let same = got == answer && self.row == self.expected && bytes && record == kept && view;
+        let same = got == answer && self.table == self.expected && bytes && record == kept && view;
         self.inputs += 1;
         self.reached.answers[refusal as usize] += 1;
         if !same {
             self.wrong += 1;
             if self.wrong <= 5 {
-                let at = (0..self.row.len()).find(|&k| self.row[k] != self.expected[k]);
-                println!("{}: {words} words, record {:02x?}, room {room}: got {got}, expected {answer}, \
+                let at = (0..self.table.len()).find(|&k| self.table[k] != self.expected[k]);
+                println!("{}: {words} words, record {:02x?}, output {capacity}: got {got}, expected {answer}, \
                     first word that differs {:?}, bytes {bytes}, view number {view}", self.name,
                     &record[..record.len().min(20)], at.map(|k| k as isize - AROUND as isize));
             }
-            self.row.clone_from(&self.expected);
+            self.table.clone_from(&self.expected);
         }
         refusal
     }
 
-    // The view number of the row, before it changes: its word, or 0 where the model answers 2.
-    fn asks_view(&mut self, refusal: u8) -> bool {
-        let number = self.words().get(rows::VIEW_NUMBER).copied().unwrap_or(0);
+    // The view number of a room before the table changes, mostly of the record's: its word, or 0 where the model
+    // answers 2 or the room is above 7.
+    fn asks_view(&mut self, record: &[u8], refusal: u8) -> bool {
+        let any = (self.inputs / 4) as u8;
+        let room = match self.inputs % 4 {
+            0 => any,
+            1 => any % ROOMS as u8,
+            _ => record.get(2).copied().unwrap_or(any),
+        };
+        let place = WORDS * room as usize + rows::VIEW_NUMBER;
+        let known = (room as usize) < ROOMS;
+        let number = if known { self.words().get(place).copied().unwrap_or(0) } else { 0 };
         let sound = refusal != 2;
         self.reached.views[!sound as usize] += (number > 0) as u64;
-        office_calls::view_number(self.words()) == Some(if sound { number } else { 0 })
+        self.reached.views[2] += !known as u64;
+        office_calls::view_number(self.words(), room) == Some(if sound { number } else { 0 })
     }
 
-    // What kind of record came, by the model, before the row changes.
+    // What kind of record came, by the model, before the table changes.
     fn count(&mut self, record: &[u8], refusal: u8) {
-        if record.len() == 18 && [0, 13].contains(&refusal) {
-            let nothing = refusal == 0 && self.written.is_empty() && self.expected == self.row;
-            let office = rows::read(self.words()).unwrap();
+        if OF_ROOM.contains(&(refusal as usize)) {
+            self.reached.rooms[room_of(record) as usize][refusal as usize] += 1;
+        }
+        if record.len() == REPORT && [0, 13].contains(&refusal) {
+            let nothing = refusal == 0 && self.written.is_empty() && self.expected == self.table;
+            let office = rows::read(self.row(room_of(record))).unwrap();
             self.reports.count(&office, record, nothing);
         }
-        if record.len() == 84 && record.starts_with(b"PR") {
+        if record.len() == PROPOSAL && record.starts_with(b"PR") {
             self.count_proposal(record, refusal);
         }
     }
 
     fn count_proposal(&mut self, record: &[u8], refusal: u8) {
-        let p = Proposal::read(record);
+        let (p, room) = (Proposal::read(record), room_of(record));
         let self_uses = p.used.get(p.sender as usize).is_some_and(|&used| used >= p.number);
-        match (refusal, rows::read(self.words())) {
-            (2, _) => self.reached.early[0] += self_uses as u64,
-            (3, Some(mut office)) => {
-                let answer = office.step(record, ROOM, &mut Vec::new());
+        match refusal {
+            2 => self.reached.early[0] += self_uses as u64,
+            3 if (room as usize) < ROOMS => {
+                let mut office = rows::read(self.row(room)).unwrap();
+                let answer = office.step(record, CAPACITY, &mut Vec::new());
                 self.reached.early[1] += (answer == 19) as u64;
             }
-            (_, office) => self.reached.self_uses.count(&office.unwrap(), record, refusal),
+            3 | 20 => (),
+            _ => {
+                let office = rows::read(self.row(room)).unwrap();
+                self.reached.self_uses.count(&office, record, refusal);
+            }
         }
     }
 
-    // One record on another row; then the row stands there that stood there, with its last report.
-    fn aside(&mut self, row: &[u32], record: &[u8], room: usize) -> u8 {
+    // One record on another table; then the table stands there that stood there, with its last reports.
+    fn aside(&mut self, table: &[u32], record: &[u8], capacity: usize) -> u8 {
         let (kept, last) = (self.words().to_vec(), self.reports.last.clone());
-        self.lend(row);
-        let refusal = self.hand(record, room);
+        self.lend(table);
+        let refusal = self.hand(record, capacity);
         self.lend(&kept);
         self.reports.last = last;
         refusal
     }
 
+    // One record on a table with this row for a room. The other seven are any rows that pass check 2, with any own
+    // offices, also near L.
+    fn aside_row(&mut self, room: u8, row: &[u32], record: &[u8], capacity: usize) -> u8 {
+        if self.inputs % 16 == 0 {
+            let (other, kind) = (self.random.below(ROOMS), self.random.below(ROWS.len()));
+            self.others[place(other)].copy_from_slice(&some_row(&mut self.random, kind));
+        }
+        let mut table = self.others.clone();
+        table[place(room as usize)].copy_from_slice(row);
+        self.aside(&table, record, capacity)
+    }
+
     fn ask(&mut self, asked: Asked) {
-        self.aside(&asked.row, &asked.p.bytes(), asked.room);
+        self.aside_row(asked.room, &asked.row, &asked.p.bytes(asked.room), asked.capacity);
     }
 
     // A fresh office: it has had no report.
     fn fresh(&mut self, own: usize) {
-        self.lend(&rows::fresh(own));
-        self.reports.last.clear();
+        self.lend(&rows::fresh_table(own));
+        self.reports.last = Default::default();
     }
 
-    fn lend(&mut self, row: &[u32]) {
-        self.row.clear();
-        self.row.resize(AROUND, WORD);
-        self.row.extend_from_slice(row);
-        self.row.resize(row.len() + 2 * AROUND, WORD);
+    fn lend(&mut self, table: &[u32]) {
+        self.table.clear();
+        self.table.resize(AROUND, WORD);
+        self.table.extend_from_slice(table);
+        self.table.resize(table.len() + 2 * AROUND, WORD);
     }
 
     fn words(&self) -> &[u32] {
-        &self.row[AROUND..self.row.len() - AROUND]
+        &self.table[AROUND..self.table.len() - AROUND]
+    }
+
+    fn row(&self, room: u8) -> &[u32] {
+        &self.words()[place(room as usize)]
     }
 }
 
@@ -189,10 +234,12 @@ struct Tally {
 impl Tally {
     fn case(&mut self, name: &str, run: impl FnOnce(&mut Compared)) -> Reports {
         let mut compared = Compared {
-            row: vec![WORD; 2 * AROUND],
+            table: vec![WORD; 2 * AROUND],
             expected: Vec::new(),
             out: Vec::new(),
             written: Vec::new(),
+            others: rows::fresh_table(0),
+            random: Random(0x2545_f491_4f6c_dd1d),
             inputs: 0,
             wrong: 0,
             reached: &mut self.reached,
@@ -264,17 +311,19 @@ fn net_view(row: &[u32]) -> u64 {
     row[rows::NET] as u64 | (row[rows::NET + 1] as u64) << 32
 }
 
-// A record for a row: one of the play, a report, a repeat, or a proposal that the row's numbers make likely to pass.
-fn some_record(random: &mut Random, row: &[u32], last: &[u8], of_play: &[u8]) -> Vec<u8> {
+// A record for the row of a room: one of the play in this room, a report, a repeat, or a proposal that the row's
+// numbers make likely to pass.
+fn some_record(random: &mut Random, room: u8, row: &[u32], last: &[u8], of_play: &[u8]) -> Vec<u8> {
     let net = net_view(row);
     let own = row[rows::OWN] as usize % 16;
     match random.below(5) {
-        0 => of_play.to_vec(),
+        0 => in_room(room, of_play),
         1 => report(
+            room,
             random.next() & random.next() & random.next() | 1 << (4 * own),
             random.next() & random.next() & random.next(),
         ),
-        2 => repeat(random, net, last),
+        2 => repeat(random, room, net, last),
         _ => {
             let sender = (own + 1 + random.below(15)) % 16;
             let members = if random.below(3) == 0 { net } else { net | 1 << (4 * own) | 1 << (4 * sender) };
@@ -286,89 +335,260 @@ fn some_record(random: &mut Random, row: &[u32], last: &[u8], of_play: &[u8]) ->
                 used[k] = some(random, &[0, row[rows::NUMBER], 1]);
             }
             used[sender] = used_for_sender(random, number, used[sender]);
-            Proposal { sender: sender as u8, kind: some(random, &[FAST, SLOW]), members, start, number, used }.bytes()
+            let kind = some(random, &[FAST, SLOW]);
+            Proposal { sender: sender as u8, kind, members, start, number, used }.bytes(room)
         }
     }
 }
 
+// The record with another room byte.
+fn in_room(room: u8, record: &[u8]) -> Vec<u8> {
+    let mut record = record.to_vec();
+    if let Some(byte) = record.get_mut(2) {
+        *byte = room;
+    }
+    record
+}
+
+// Every office in words of some lengths, and some offices in words of every length.
 fn making() -> bool {
-    (0..=255_u8).all(|office| {
-        (0..=WORDS + 75).all(|words| {
-            let mut lent = vec![WORD; words + 2 * AROUND];
-            let got = unsafe { room_fresh(office, lent.as_mut_ptr().add(AROUND), words) };
-            let mut expected = vec![WORD; words + 2 * AROUND];
-            let made = if office <= 15 { office as usize } else { 0 };
-            if words == WORDS {
-                expected[AROUND..AROUND + WORDS].copy_from_slice(&rows::fresh(made));
-            }
-            let number = if office > 15 { 1 } else if words != WORDS { 2 } else { 0 };
-            got == number && lent == expected
-        })
-    })
+    let made = |office: u8, words: usize| {
+        let mut lent = vec![WORD; words + 2 * AROUND];
+        let got = unsafe { room_fresh(office, lent.as_mut_ptr().add(AROUND), words) };
+        let mut expected = vec![WORD; words + 2 * AROUND];
+        let made = if office <= 15 { office as usize } else { 0 };
+        if words == TABLE {
+            expected[AROUND..AROUND + TABLE].copy_from_slice(&rows::fresh_table(made));
+        }
+        let number = if office > 15 { 1 } else if words != TABLE { 2 } else { 0 };
+        got == number && lent == expected
+    };
+    let lengths = [0, 1, WORDS - 1, WORDS, WORDS + 1, 7 * WORDS, TABLE - 1, TABLE, TABLE + 1, TABLE + WORDS];
+    (0..=255).all(|office| lengths.into_iter().all(|words| made(office, words)))
+        && [0, 7, 15, 16, 255].into_iter().all(|office| (0..=TABLE + 75).all(|words| made(office, words)))
 }
 
 fn plays(t: &mut Tally) {
-    let name = "the records of plays";
+    let name = "the records of plays in all eight rooms";
     let mut sent = Sent::default();
+    // by room, and where the room is another than that of the record before
+    let (mut rooms, mut turns, before) = ([0; ROOMS], 0, t.inputs);
     let met = t.case(name, |c| {
         let mut r = Random(0x9e37_79b9_7f4a_7c15);
-        for _ in 0..800 {
-            let (own, records) = a_play(&mut r, 1000);
+        for _ in 0..1040 {
+            let (own, records) = a_play_in(&mut r, &EIGHT, 1000);
             c.fresh(own);
+            let mut last = 0;
             for record in &records {
-                c.hand(record, ROOM);
+                let room = room_of(record);
+                if let Some(n) = rooms.get_mut(room as usize) {
+                    *n += 1;
+                }
+                turns += (room != std::mem::replace(&mut last, room)) as u64;
+                c.hand(record, CAPACITY);
                 sent.count(&c.written);
             }
         }
     });
-    t.verdicts.check("half a million records", t.inputs >= 500_000);
+    t.often(name, t.inputs - before, 1_000_000);
+    t.often(&format!("{name}: of the room with fewest"), *rooms.iter().min().unwrap(), 100_000);
+    t.often(&format!("{name}: another room than before"), turns, 800_000);
     t.met(name, &met);
     t.met_sent(name, &sent, 50_000);
+    t.case("the records of plays in one room or more", |c| {
+        let mut r = Random(12);
+        for _ in 0..200 {
+            let (own, records) = a_play(&mut r, 500);
+            c.fresh(own);
+            for record in &records {
+                c.hand(record, CAPACITY);
+            }
+        }
+    });
+}
+
+// Each room has an office of its own and a play of its own; the records come mixed.
+fn offices_apart(t: &mut Tally) {
+    let name = "eight rooms of different offices";
+    let (mut views, mut differ) = ([0_u64; ROOMS], 0);
+    t.case(name, |c| {
+        let mut r = Random(13);
+        for _ in 0..150 {
+            let mut plays: Vec<_> = EIGHT.iter().map(|&room| a_play_in(&mut r, &[room], 100)).collect();
+            c.fresh(0);
+            let table: Vec<u32> = plays.iter().flat_map(|(own, _)| rows::fresh(*own)).collect();
+            differ += plays.iter().any(|(own, _)| *own != plays[0].0) as u64;
+            c.lend(&table);
+            plays.iter_mut().for_each(|(_, records)| records.reverse());
+            while plays.iter().any(|(_, records)| !records.is_empty()) {
+                if let Some(record) = plays[r.below(ROOMS)].1.pop() {
+                    c.hand(&record, CAPACITY);
+                    if c.written.windows(2).any(|mark| mark == b"VW") {
+                        views[room_of(&record) as usize] += 1;
+                    }
+                }
+            }
+        }
+    });
+    t.often(&format!("{name}: tables"), differ, 100);
+    t.often(&format!("{name}: views in the room with fewest"), *views.iter().min().unwrap(), 100);
 }
 
 fn changed_rows(t: &mut Tally) {
-    let name = "rows of plays with none, one or two words changed";
+    let name = "tables of plays with none, one or two words changed";
     let (mut changed, mut passed) = (0, 0);
+    // by the only room whose row fails check 2, and by the record's
+    let mut alone = [[0_u64; ROOMS]; ROOMS];
     let met = t.case(name, |c| {
         let mut r = Random(2);
         while changed < 375_000 {
             let (own, records) = a_play(&mut r, 200);
             c.fresh(own);
             for record in &records {
-                c.hand(record, ROOM);
+                c.hand(record, CAPACITY);
                 for _ in 0..2 {
-                    let mut row = c.words().to_vec();
+                    let mut table = c.words().to_vec();
+                    let mut room = r.below(ROOMS);
                     for _ in 0..r.below(3) {
-                        change(&mut r, &mut row);
+                        change(&mut r, &mut table[place(room)]);
+                        room = some(&mut r, &[room, room, (room + 1) % ROOMS]);
                     }
-                    let record = some_record(&mut r, &row, &c.reports.last, record);
+                    let other = r.below(ROOMS);
+                    room = some(&mut r, &[room, room, other]);
+                    let last = &c.reports.last[room];
+                    let record = some_record(&mut r, room as u8, &table[place(room)], last, record);
                     changed += 1;
-                    passed += (c.aside(&row, &record, ROOM) != 2) as usize;
+                    passed += (c.aside(&table, &record, CAPACITY) != 2) as usize;
+                    let bad: Vec<usize> = (0..ROOMS).filter(|&k| !rows::passes(&table[place(k)])).collect();
+                    if let [bad] = bad[..] {
+                        alone[bad][room] += 1;
+                    }
                 }
             }
         }
     });
-    println!("{changed} rows, {passed} of them pass check 2");
-    t.verdicts.check("half of the rows pass check 2", changed >= 100_000 && 2 * passed >= changed);
+    println!("{changed} tables, {passed} of them pass check 2");
+    t.verdicts.check("half of the tables pass check 2", changed >= 100_000 && 2 * passed >= changed);
+    let least = *alone.iter().flatten().min().unwrap();
+    t.often(&format!("{name}: one row fails, of that row and the record's room with fewest"), least, 100);
     t.met(name, &met);
     t.met_at_ceiling(name, &met);
 }
 
+// Each way in which one word makes a row malformed, in each of the eight rows, with a report and a proposal of every
+// room, and of one above 7. Every other row passes; so does every row before the word is changed.
+fn malformed(t: &mut Tally) {
+    let name = "one word of one row that fails check 2";
+    let (mut refused, mut passed, mut asked) = ([[0_u64; ROOMS + 1]; ROOMS], 0, 0);
+    t.case(name, |c| {
+        let mut r = Random(14);
+        for (k, (at, word)) in bad_words().into_iter().enumerate() {
+            for room in 0..ROOMS {
+                let sound = some_table(&mut r, k % ROWS.len(), at);
+                let mut table = sound.clone();
+                table[WORDS * room + at] = word;
+                for of in 0..=ROOMS {
+                    let of = if of == ROOMS { 8 + r.below(248) } else { of };
+                    let row = &sound[place(of % ROOMS)];
+                    let joining = report(0, r.next(), 0);
+                    let record = some_record(&mut r, of as u8, row, &[], &joining);
+                    let capacity = if asked % 8 == 0 { 0 } else { CAPACITY };
+                    refused[room][of.min(ROOMS)] += (c.aside(&table, &record, capacity) == 2) as u64;
+                    passed += (c.aside(&sound, &record, CAPACITY) != 2) as u64;
+                    asked += 1;
+                }
+            }
+        }
+    });
+    let each = asked / (ROOMS * (ROOMS + 1)) as u64;
+    t.verdicts.check(&format!("{name}: 2 each time, in every row and for every room"),
+        each >= 1000 && refused.iter().flatten().all(|&n| n == each));
+    t.verdicts.check(&format!("{name}: the same table passes with that word sound"), passed == asked);
+}
+
+// Every room byte, with records that any other reason refuses, or none. By the byte and the answer that room 0 gives
+// to the same record.
+fn above_seven(t: &mut Tally) {
+    let name = "every room byte";
+    let mut came = vec![[0_u64; 21]; 256];
+    let mut wrong = 0;
+    t.case(name, |c| {
+        let mut r = Random(15);
+        for _ in 0..12 {
+            // the eight rows are one row: that of room 0 after a play there
+            let (own, records) = a_play_in(&mut r, &[0], 60);
+            c.fresh(own);
+            for record in &records {
+                c.hand(record, CAPACITY);
+            }
+            let row = c.row(0).to_vec();
+            let mut asked: Vec<(Vec<u32>, Vec<u8>, usize)> = Vec::new();
+            for fault in FAULTS {
+                for relation in [RELATIONS[0], RELATIONS[4]] {
+                    let mut a = Asked::sound(&mut r, 0, &row);
+                    fault(&mut a);
+                    let used = relation(a.p.number);
+                    let a = a.using(used);
+                    asked.push((a.row.repeat(ROOMS), a.p.bytes(0), a.capacity));
+                }
+            }
+            let reports = [report(0, r.next(), r.next()), report(0, 0, 0), repeat(&mut r, 0, net_view(&row), &[])];
+            asked.extend(reports.map(|record| (row.repeat(ROOMS), record, CAPACITY)));
+            let mut high = row.clone();
+            high[rows::START] = L;
+            asked.push((high.repeat(ROOMS), report(0, u64::MAX, 0), CAPACITY));
+            // 4 and 5: other marks, a byte less and more, up to the room byte alone
+            let (p, n) = (Asked::sound(&mut r, 0, &row).p.bytes(0), report(0, r.next(), 0));
+            for record in [&p, &n] {
+                let more = [&record[..], &[0]].concat();
+                let marks = [*b"EN", *b"SC", *b"VW", *b"NR", *b"PE"].map(|mark| [&mark[..], &record[2..]].concat());
+                let cut = [&record[..3], &record[..record.len() - 1], &more].map(|part| part.to_vec());
+                asked.extend(marks.into_iter().chain(cut).map(|record| (row.repeat(ROOMS), record, CAPACITY)));
+            }
+            asked.push((row.repeat(ROOMS), [&b"NE"[..], &p[2..]].concat(), CAPACITY));
+            asked.push((row.repeat(ROOMS), [&b"PR"[..], &n[2..]].concat(), CAPACITY));
+            for (table, record, capacity) in asked {
+                let mut first = 0;
+                for byte in 0..=255 {
+                    let answer = c.aside(&table, &in_room(byte, &record), capacity);
+                    if byte == 0 {
+                        first = answer;
+                    }
+                    let before = [2, 3, 4, 5].contains(&first);
+                    let expected = if byte > 7 && !before { 20 } else { first };
+                    wrong += (answer != expected) as u64;
+                    came[byte as usize][first as usize] += 1;
+                }
+            }
+        }
+    });
+    t.verdicts.check(&format!("{name}: 20 above 7, after 2, 3, 4 and 5 and before all others"), wrong == 0);
+    for answer in ANSWERS.into_iter().filter(|&n| n != 20) {
+        let least = came.iter().map(|n| n[answer]).min().unwrap();
+        t.often(&format!("{name}: a record that gets {answer} in room 0, of the byte with fewest"), least, 10);
+    }
+}
+
 fn near_the_ceiling(t: &mut Tally) {
-    let name = "a row near the ceiling, record after record";
+    let name = "a table near the ceiling, record after record";
     let met = t.case(name, |c| {
         let mut r = Random(3);
         for _ in 0..2000 {
             let (own, records) = a_play(&mut r, 75);
             c.fresh(own);
-            let mut row = rows::fresh(own);
-            row[rows::START] = L - r.below(20) as u32;
-            row[rows::NUMBER] = L - r.below(20) as u32;
-            row[rows::VIEW_NUMBER] = L - r.below(20) as u32;
-            c.lend(&row);
+            let mut table = rows::fresh_table(own);
+            // all rooms, or all but some
+            for room in (0..ROOMS).step_by(1 + r.below(3)) {
+                for at in [rows::START, rows::NUMBER, rows::VIEW_NUMBER] {
+                    table[WORDS * room + at] = L - r.below(20) as u32;
+                }
+            }
+            c.lend(&table);
             for record in &records {
-                let record = some_record(&mut r, c.words(), &c.reports.last, record);
-                c.hand(&record, ROOM);
+                let room = record[2] % ROOMS as u8;
+                let last = &c.reports.last[room as usize];
+                let record = some_record(&mut r, room, c.row(room), last, record);
+                c.hand(&record, CAPACITY);
             }
         }
     });
@@ -379,45 +599,38 @@ fn near_the_ceiling(t: &mut Tally) {
 fn lengths(t: &mut Tally) {
     t.case("words, outputs and records of every length", |c| {
         let mut r = Random(4);
-        let (own, records) = a_play(&mut r, 100);
+        let (own, records) = a_play_in(&mut r, &EIGHT, 300);
         c.fresh(own);
-        for record in &records[..50] {
-            c.hand(record, ROOM);
+        for record in &records[..280] {
+            c.hand(record, CAPACITY);
         }
-        let row = c.words().to_vec();
-        let repeats: Vec<_> = (0..6).map(|_| repeat(&mut r, net_view(&row), &c.reports.last)).collect();
+        let table = c.words().to_vec();
+        let repeats: Vec<_> = EIGHT.iter().map(|&room| {
+            repeat(&mut r, room, net_view(c.row(room)), &c.reports.last[room as usize])
+        }).collect();
         // equal to the proposal's own number, and above
         let self_uses = [0, 1].map(|more| {
-            let asked = Asked::sound(&mut r, &row);
+            let asked = Asked::sound(&mut r, 6 + more as u8, c.row(6 + more as u8));
             let used = asked.p.number + more;
-            asked.using(used).p.bytes()
+            let asked = asked.using(used);
+            asked.p.bytes(asked.room)
         });
-        for record in records[50..].iter().chain(&repeats).chain(&self_uses) {
-            for words in 0..=WORDS + 75 {
-                let mut lent = row.clone();
+        for record in records[280..].iter().chain(&repeats).chain(&self_uses) {
+            for words in 0..=TABLE + 75 {
+                let mut lent = table.clone();
                 lent.resize(words, 0);
-                c.aside(&lent, record, ROOM);
+                c.aside(&lent, record, CAPACITY);
             }
-            for room in 0..=2 * ROOM {
-                c.aside(&row, record, room);
+            for capacity in 0..=2 * CAPACITY {
+                c.aside(&table, record, capacity);
             }
             for length in 0..=200 {
                 let mut part = record.clone();
                 part.resize(length, 0);
-                c.aside(&row, &part, ROOM);
+                c.aside(&table, &part, CAPACITY);
             }
         }
     });
-}
-
-// Words of any state that passes check 2.
-fn make_sound(row: &mut [u32]) {
-    row[rows::OWN] %= 16;
-    row[rows::MODE] %= 3;
-    row[rows::PRESENT] %= 65_536;
-    for word in &mut row[rows::START..] {
-        *word %= L + 1;
-    }
 }
 
 // One or two bits of the word turned over: slots appear with any words in them, slots are gone, bits of no office.
@@ -426,36 +639,35 @@ fn presence(t: &mut Tally) {
     let mut refused = 0;
     t.case(name, |c| {
         let mut r = Random(11);
-        for _ in 0..20 {
-            let mut row: Vec<u32> = (0..WORDS).map(|_| r.next() as u32).collect();
-            make_sound(&mut row);
+        for k in 0..24 {
+            let row = some_row(&mut r, 1);
             for bits in (0..32).flat_map(|a| (0..32).map(move |b| 1_u32 << a | 1 << b)) {
                 let mut turned = row.clone();
                 turned[rows::PRESENT] ^= bits;
-                let joining = report(r.next(), 0);
-                let record = some_record(&mut r, &turned, &[], &joining);
-                refused += (c.aside(&turned, &record, ROOM) == 2) as u64;
+                let joining = report(0, r.next(), 0);
+                let record = some_record(&mut r, EIGHT[k % ROOMS], &turned, &[], &joining);
+                refused += (c.aside_row(EIGHT[k % ROOMS], &turned, &record, CAPACITY) == 2) as u64;
             }
         }
     });
     // two bits of offices pass
-    t.verdicts.check(&format!("{name}: 2 for every bit of no office"), refused == 20 * (32 * 32 - 16 * 16));
+    t.verdicts.check(&format!("{name}: 2 for every bit of no office"), refused == 24 * (32 * 32 - 16 * 16));
 }
 
 fn random_words(t: &mut Tally) {
     t.case("random words and random bytes", |c| {
         let mut r = Random(5);
         for _ in 0..50_000 {
-            let mut row: Vec<u32> = (0..WORDS).map(|_| r.next() as u32 % (2 * L)).collect();
-            if r.below(4) != 0 {
-                make_sound(&mut row);
-            }
+            let mut table: Vec<u32> = (0..TABLE).map(|_| r.next() as u32 % (2 * L)).collect();
+            let spared = if r.below(4) == 0 { r.below(ROOMS) } else { ROOMS };
+            (0..ROOMS).filter(|&room| room != spared).for_each(|room| make_sound(&mut table[place(room)]));
+            let room = r.below(ROOMS);
             let record = match r.below(3) {
-                0 => r.bytes(18),
-                1 => report(r.next(), r.next()),
-                _ => some_record(&mut r, &row, &[], &[]),
+                0 => r.bytes(REPORT),
+                1 => report(room as u8, r.next(), r.next()),
+                _ => some_record(&mut r, room as u8, &table[place(room)], &[], &[]),
             };
-            c.aside(&row, &record, ROOM);
+            c.aside(&table, &record, CAPACITY);
         }
     });
 }
@@ -466,19 +678,19 @@ fn near_self_uses(t: &mut Tally) {
     t.case("proposals that claim to have used themselves, or nearly", |c| {
         let mut r = Random(6);
         for case in 0..64 {
-            let records = 5 + r.below(60);
-            let (own, records) = a_play(&mut r, records);
+            let (room, records) = (EIGHT[case % ROOMS], 5 + r.below(60));
+            let (own, records) = a_play_in(&mut r, &[room], records);
             c.fresh(own);
             for record in &records {
-                c.hand(record, ROOM);
+                c.hand(record, CAPACITY);
             }
-            let mut row = c.words().to_vec();
-            if case % 8 == 0 {
+            let mut row = c.row(room).to_vec();
+            if case / 8 % 4 == 0 {
                 row[rows::NUMBER] = L - r.below(3) as u32;
             }
             for (first, second) in FAULTS.iter().flat_map(|first| FAULTS.map(|second| (first, second))) {
                 for relation in RELATIONS {
-                    let mut asked = Asked::sound(&mut r, &row);
+                    let mut asked = Asked::sound(&mut r, room, &row);
                     first(&mut asked);
                     second(&mut asked);
                     let used = relation(asked.p.number);
@@ -487,7 +699,7 @@ fn near_self_uses(t: &mut Tally) {
             }
             // a single bit apart
             for bit in (0..31).cycle().take(31 * 16) {
-                let asked = Asked::sound(&mut r, &row);
+                let asked = Asked::sound(&mut r, room, &row);
                 let used = asked.p.number ^ 1 << bit;
                 c.ask(asked.using(used));
             }
@@ -502,13 +714,13 @@ fn sixteen_offices(t: &mut Tally) {
     t.case(name, |c| {
         let mut r = Random(7);
         for case in 0..300 {
-            let mut play = Sixteen::new(&mut r, case % 5 == 0);
-            for _ in 0..2000 {
-                play.event(&mut met, |row, record, room| {
-                    c.reports.last.clear();
-                    c.lend(row);
-                    let refusal = c.hand(record, room);
-                    row.copy_from_slice(c.words());
+            let mut play = Sixteen::new(&mut r, case % 5 == 0, &mut met);
+            for _ in 0..2500 {
+                play.event(&mut met, |table, record, capacity| {
+                    c.reports.last = Default::default();
+                    c.lend(table);
+                    let refusal = c.hand(record, capacity);
+                    table.copy_from_slice(c.words());
                     (refusal, c.written.clone())
                 });
             }
@@ -523,7 +735,13 @@ fn sixteen_offices(t: &mut Tally) {
     }
     t.often("proposals lost", met.lost, 1000);
     t.often("restarts from a file with a mark", met.restarts, 1000);
-    t.often("proposals sent after a restart", met.after_restart, 10_000);
+    t.often("restarts after more than one room had given numbers out", met.shared, 500);
+    t.verdicts.check(&format!("{name}: each restart leaves every room at the last mark"), met.wrong_restarts == 0);
+    let least = *met.after_restart.iter().min().unwrap();
+    t.often("proposals sent after a restart, in the room with fewest", least, 1000);
+    t.often("records that need no mark because of another room's", met.covered, 1000);
+    t.often("proposals behind one of another room on a link", met.behind, 5000);
+    t.verdicts.check(&format!("{name}: in each room every number that leaves is above the last"), met.twice == 0);
     t.met_sent(name, &met.sent, 30_000);
 }
 
@@ -537,11 +755,14 @@ fn main() {
     let mut tally = Tally { reached: Reached::default(), inputs: 0, verdicts: Verdicts::default() };
     let t = &mut tally;
 
-    t.verdicts.check("every office in words of every length", making());
+    t.verdicts.check("every office, and words of every length", making());
     office_calls::reports(&mut t.verdicts);
     office_calls::view_numbers(&mut t.verdicts);
     plays(t);
+    offices_apart(t);
     changed_rows(t);
+    malformed(t);
+    above_seven(t);
     near_the_ceiling(t);
     near_limit::all(t);
     lengths(t);
@@ -554,9 +775,14 @@ fn main() {
     println!("answers: {}", tallied(&answers));
     t.verdicts.check("each answer but 1 was reached", ANSWERS.iter().all(|&n| answers[n] > 0));
     t.met_self_uses();
-    let [views, none] = t.reached.views;
-    t.often("rows with a view", views, 500_000);
-    t.often("rows answered 2 with a view's number", none, 50_000);
+    for answer in OF_ROOM {
+        let least = t.reached.rooms.iter().map(|n| n[answer]).min().unwrap();
+        t.often(&format!("answer {answer}, of the room with fewest"), least, 1000);
+    }
+    let [views, none, above] = t.reached.views;
+    t.often("rooms asked for a view that they have", views, 500_000);
+    t.often("tables answered 2 with a view's number in the room asked", none, 50_000);
+    t.often("view numbers asked of a room above 7", above, 500_000);
     println!("step: {} inputs compared", tally.inputs);
     tally.verdicts.end();
 }

@@ -22,7 +22,7 @@ struct answer {
 };
 
 /* What carries on from line to line of a day. */
-static uint32_t state[ROOM_STATE_WORDS + 1], desk[ROOM_SEAT_WORDS];
+static uint32_t table[ROOM_TABLE_WORDS + 1], desk[ROOM_DESK_WORDS];
 static int begins; /* the next line is the first of its day */
 
 static void stop(const char *what) {
@@ -62,27 +62,29 @@ static void put(struct answer *a, uint64_t number, size_t bytes) {
 static uint32_t number(const char *who) { return strcmp(who, "-") == 0 ? 16 : (uint32_t)strtoul(who, NULL, 10); }
 
 static void step(struct answer *a, size_t words, struct bytes in, size_t capacity) {
-    uint32_t answer = room_step(state, words, in.at, in.length, a->bytes, capacity);
+    uint32_t answer = room_step(table, words, in.at, in.length, a->bytes, capacity);
     a->refusal = answer % 256;
     a->length = answer / 256;
 }
 
 static void office(struct answer *a, const char *who, struct bytes in) {
     if (begins) {
-        a->refusal = room_fresh((uint8_t)number(who), state, ROOM_STATE_WORDS);
+        a->refusal = room_fresh((uint8_t)number(who), table, ROOM_TABLE_WORDS);
     }
     if (a->refusal == 0) {
-        step(a, ROOM_STATE_WORDS, in, MOST);
+        step(a, ROOM_TABLE_WORDS, in, MOST);
     }
 }
 
 static void a_desk(struct answer *a, const char *who, struct bytes in) {
     if (begins) {
-        a->refusal = room_seat_fresh((uint8_t)number(who), desk, ROOM_SEAT_WORDS);
+        a->refusal = room_desk_fresh((uint8_t)number(who), desk, ROOM_DESK_WORDS);
     }
     if (a->refusal == 0) {
-        a->refusal = room_seat_hear(desk, ROOM_SEAT_WORDS, in.at, in.length);
-        a->length = room_seat_sync(desk, ROOM_SEAT_WORDS, a->bytes, ROOM_SYNC_BYTES);
+        a->refusal = room_desk_hear(desk, ROOM_DESK_WORDS, in.at, in.length);
+        int roomless = a->refusal == ROOM_REFUSED_MARK || a->refusal == ROOM_REFUSED_LENGTH ||
+                       a->refusal == ROOM_REFUSED_ROOM;
+        a->length = room_desk_sync(desk, ROOM_DESK_WORDS, roomless ? 0 : in.at[2], a->bytes, ROOM_SYNC_BYTES);
     }
 }
 
@@ -97,12 +99,17 @@ static void sheet(struct answer *a, const char *who, struct bytes view, struct b
     }
 }
 
-/* Both calls that read a file agree, but for the office. */
+/* Both calls that read a file agree, but for the office; and every room begins at the number. */
 static void file(struct answer *a, const char *who, struct bytes in) {
     uint64_t last = room_last_mark(in.at, in.length);
-    a->refusal = room_restart((uint8_t)number(who), in.at, in.length, state, ROOM_STATE_WORDS);
+    a->refusal = room_restart((uint8_t)number(who), in.at, in.length, table, ROOM_TABLE_WORDS);
     if (a->refusal != 1 && a->refusal != last % 256) {
         stop("room_restart and room_last_mark differ");
+    }
+    for (uint8_t room = 0; a->refusal == 0 && room < ROOM_ROOMS; room++) {
+        if (room_view_number(table, ROOM_TABLE_WORDS, room) != last / 256) {
+            stop("room_restart begins a room at another number");
+        }
     }
     if (a->refusal == 0) {
         put(a, last / 256, 4);
@@ -121,24 +128,25 @@ static void leave(struct answer *a, const char *who, struct bytes in) {
 }
 
 static void lent(struct answer *a, char *who, struct bytes in) {
-    size_t words = ROOM_STATE_WORDS, capacity = MOST;
+    size_t words = ROOM_TABLE_WORDS, capacity = MOST;
+    unsigned long place = 0;
     char *rest = NULL;
-    memset(state, 0, sizeof state);
-    if (room_fresh(0, state, ROOM_STATE_WORDS) != 0) {
+    memset(table, 0, sizeof table);
+    if (room_fresh(0, table, ROOM_TABLE_WORDS) != 0) {
         stop("room_fresh makes no office 0");
     }
     for (char *part = strtok_r(who, ",", &rest); part != NULL; part = strtok_r(NULL, ",", &rest)) {
         if (strncmp(part, "capacity=", 9) == 0) {
             capacity = strtoul(part + 9, NULL, 10);
-        } else if (strncmp(part, "own=", 4) == 0) {
-            state[0] = number(part + 4);
         } else if (strncmp(part, "words=", 6) == 0) {
             words += (size_t)strtol(part + 6, NULL, 10);
+        } else if (sscanf(part, "word%lu=", &place) == 1 && strchr(part, '=') != NULL && place < ROOM_TABLE_WORDS) {
+            table[place] = number(strchr(part, '=') + 1);
         } else if (strcmp(part, "whole") != 0) {
             stop("nothing is lent by that name");
         }
     }
-    if (words > sizeof state / sizeof *state || capacity > MOST) {
+    if (words > sizeof table / sizeof *table || capacity > MOST) {
         stop("more is lent than there is");
     }
     step(a, words, in, capacity);

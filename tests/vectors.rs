@@ -1,5 +1,7 @@
 // The days of vectors/office.txt beside the model: the records of each, put together behind its office, are the input
-// of the model's program, and its lines are the columns. Argument: the file. A day passes when all its lines agree.
+// of the model's program, and its lines are the columns; its view number is that of the last view written in the
+// record's room, 0 before the first and with 1, 4, 5 and 20. Argument: the file. A day passes when all its lines
+// agree.
 #[allow(dead_code)]
 #[path = "common/model.rs"]
 mod model;
@@ -40,16 +42,36 @@ fn days(text: &str) -> Vec<Day> {
     days
 }
 
+// The view number that stands behind each line.
+fn view_numbers(day: &Day) -> Vec<u32> {
+    let mut last = [0; 256];
+    let mut numbers = Vec::new();
+    for (record, refusal, written) in &day.lines {
+        let mut rest = &written[..];
+        while !rest.is_empty() {
+            if rest.starts_with(b"VW") {
+                last[rest[2] as usize] = u32::from_be_bytes(rest[3..7].try_into().unwrap());
+            }
+            rest = &rest[model::written_length(rest)..];
+        }
+        numbers.push(if [1, 4, 5, 20].contains(refusal) { 0 } else { last[record[2] as usize] });
+    }
+    numbers
+}
+
 fn agrees(day: &Day) -> bool {
     let input: Vec<u8> = day.office.iter().chain(day.lines.iter().flat_map(|(record, ..)| record)).copied().collect();
-    let mut lines = Vec::new();
-    model::program(&mut &input[..], |line| lines.push((line.record.to_vec(), line.refusal, line.bytes.to_vec())));
+    let (mut lines, mut numbers) = (Vec::new(), Vec::new());
+    model::program(&mut &input[..], |line| {
+        lines.push((line.record.to_vec(), line.refusal, line.bytes.to_vec()));
+        numbers.push(line.view_number);
+    });
     // With an unknown mark the model reads two bytes; the rest of the input counts as that record.
     if let Some((record, 4, _)) = lines.last_mut() {
         let read: usize = day.lines[..day.lines.len() - 1].iter().map(|(record, ..)| record.len()).sum();
         *record = input[day.office.len() + read..].to_vec();
     }
-    !day.lines.is_empty() && lines == day.lines
+    !day.lines.is_empty() && lines == day.lines && numbers == view_numbers(day)
 }
 
 fn main() {

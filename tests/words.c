@@ -1,7 +1,7 @@
 /* What include/room_words.h does beside bytes that are written out here by docs/LAYOUT.md: answers taken apart, texts,
- * every record read and written, and the records of an output one after another, cut and damaged at every byte. Every
- * buffer has exactly its length, so that the address sanitizer sees a byte read behind it. C and C++; no archive.
- * The last line is 'N passed, M failed'. */
+ * every record read and written, its room, the records of an output one after another, cut and damaged at every byte,
+ * and the words of a desk. Every buffer has exactly its length, so that the address sanitizer sees a byte read behind
+ * it. C and C++; no archive. The last line is 'N passed, M failed'. */
 #include "room_words.h"
 
 #include <stdio.h>
@@ -31,15 +31,16 @@ static uint8_t *lent(const void *bytes, size_t length) {
 
 static void give_back(uint8_t *bytes, size_t length) { free(length > 0 ? bytes : bytes - 1); }
 
-/* Each record by hand. Sixteen numbers: 0, 1, 2 .. and the last 2,000,000,000, 77 35 94 00. */
+/* Each record by hand, each of another room, also of one above 7. Sixteen numbers: 0, 1, 2 .. and the last
+ * 2,000,000,000, 77 35 94 00. */
 #define SIXTEEN \
     "\0\0\0\0" "\0\0\0\1" "\0\0\0\2" "\0\0\0\3" "\0\0\0\4" "\0\0\0\5" "\0\0\0\6" "\0\0\0\7" \
     "\0\0\0\x8" "\0\0\0\x9" "\0\0\0\xA" "\0\0\0\xB" "\0\0\0\xC" "\0\0\0\xD" "\0\0\0\xE" "\x77\x35\x94\0"
-static const char report[] = "\x4E\x45" "\x80\0\0\0\0\0\0\x11" "\x01\x23\x45\x67\x89\xAB\xCD\xEF";
+static const char report[] = "\x4E\x45" "\x06" "\x80\0\0\0\0\0\0\x11" "\x01\x23\x45\x67\x89\xAB\xCD\xEF";
 static const char proposal[] =
-    "\x50\x52" "\x0F" "\2" "\xF0\1\2\3\4\5\6\7" "\x11\x22\x33\x44" "\xFF\xFE\xFD\xFC" SIXTEEN;
-static const char notice[] = "\x53\x43" "\x77\x35\x94\0" "\xF0\1\2\3\4\5\6\7";
-static const char view[] = "\x56\x57" "\0\1\2\3" "\xF0\1\2\3\4\5\6\7" SIXTEEN;
+    "\x50\x52" "\x05" "\x0F" "\2" "\xF0\1\2\3\4\5\6\7" "\x11\x22\x33\x44" "\xFF\xFE\xFD\xFC" SIXTEEN;
+static const char notice[] = "\x53\x43" "\xC8" "\x77\x35\x94\0" "\xF0\1\2\3\4\5\6\7";
+static const char view[] = "\x56\x57" "\x07" "\0\1\2\3" "\xF0\1\2\3\4\5\6\7" SIXTEEN;
 static const char sync_record[] = "\x53\x59" "\x3F" "\0\0\1\0" "\x77\x35\x94\0";
 static const char mark[] = "\x48\x4D" "\0\x0F\x42\x41" "\0\x0F\x42\x42";
 
@@ -49,9 +50,10 @@ static const struct {
     enum room_record record;
     const char *bytes;
     size_t length;
+    unsigned room; /* 256 where the record has none */
 } all[] = {
-    {ROOM_REPORT, report, 18}, {ROOM_PROPOSAL, proposal, 84}, {ROOM_NOTICE, notice, 14},
-    {ROOM_VIEW, view, 78},     {ROOM_SYNC, sync_record, 11},  {ROOM_MARK, mark, 10},
+    {ROOM_REPORT, report, 19, 6}, {ROOM_PROPOSAL, proposal, 85, 5},   {ROOM_NOTICE, notice, 15, 200},
+    {ROOM_VIEW, view, 79, 7},     {ROOM_SYNC, sync_record, 11, 256}, {ROOM_MARK, mark, 10, 256},
 };
 enum { KINDS = 6 };
 
@@ -64,12 +66,12 @@ static int are_sixteen(const uint32_t *numbers) {
 }
 
 static void answers(void) {
-    uint64_t high = (uint64_t)2000000000 * 65536 + 84 * 256 + 3;
+    uint64_t high = (uint64_t)2000000000 * 65536 + 85 * 256 + 3;
     verdict(room_refused(0) == 0 && room_value(0) == 0, "the answer 0");
-    verdict(room_refused(182 * 256 + 19) == 19 && room_value(182 * 256 + 19) == 182, "the parts of an answer");
+    verdict(room_refused(185 * 256 + 20) == 20 && room_value(185 * 256 + 20) == 185, "the parts of an answer");
     verdict(room_refused(UINT64_MAX) == 255 && room_value(UINT64_MAX) == UINT64_MAX / 256, "the highest answer");
     verdict(room_value((uint64_t)2000000000 * 256 + 18) == 2000000000, "a mark of L is not cut");
-    verdict(room_refused(high) == 3 && room_before_length(high) == 84 && room_before_mark(high) == 2000000000,
+    verdict(room_refused(high) == 3 && room_before_length(high) == 85 && room_before_mark(high) == 2000000000,
             "the three parts of what must happen before");
     verdict(room_seat(0) == 1 && room_seat(63) == (uint64_t)1 << 63 && room_seat(64) == 0 && room_seat(~0u) == 0,
             "the set of one seat");
@@ -120,20 +122,21 @@ static int read_as(enum room_record record, const uint8_t *bytes, size_t length)
     switch (record) {
     case ROOM_REPORT:
         is = room_report_read(bytes, length, &got.r);
-        good = got.r.joining == 0x8000000000000011u && got.r.leaving == 0x0123456789ABCDEFu;
+        good = got.r.room == 6 && got.r.joining == 0x8000000000000011u && got.r.leaving == 0x0123456789ABCDEFu;
         break;
     case ROOM_PROPOSAL:
         is = room_proposal_read(bytes, length, &got.p);
-        good = got.p.sender == 15 && got.p.kind == ROOM_SLOW && got.p.members == members &&
+        good = got.p.room == 5 && got.p.sender == 15 && got.p.kind == ROOM_SLOW && got.p.members == members &&
                got.p.start == 0x11223344 && got.p.number == 0xFFFEFDFCu && are_sixteen(got.p.used);
         break;
     case ROOM_NOTICE:
         is = room_notice_read(bytes, length, &got.n);
-        good = got.n.start == 2000000000 && got.n.members == members;
+        good = got.n.room == 200 && got.n.start == 2000000000 && got.n.members == members;
         break;
     case ROOM_VIEW:
         is = room_view_read(bytes, length, &got.v);
-        good = got.v.number == 0x010203 && got.v.members == members && are_sixteen(got.v.starts);
+        good = got.v.room == 7 && got.v.number == 0x010203 && got.v.members == members &&
+               are_sixteen(got.v.starts);
         break;
     case ROOM_SYNC:
         is = room_sync_read(bytes, length, &got.s);
@@ -176,6 +179,7 @@ static void fields(void) {
             memcpy(long_enough, all[k].bytes, all[k].length);
             uint8_t *bytes = lent(long_enough, length);
             reads &= room_record_of(bytes, length) == (length < 2 ? ROOM_NO_RECORD : all[k].record);
+            reads &= room_record_room(bytes, length) == (length < 3 ? 256 : all[k].room);
             for (int as = 0; as < KINDS; as++) {
                 reads &= read_as(all[as].record, bytes, length) == (as == k && length == all[k].length);
             }
@@ -199,6 +203,48 @@ static void fields(void) {
     verdict(room_record_bytes(ROOM_NO_RECORD) == 0, "no record has length 0");
 }
 
+/* The room of every record with every byte in its place; and of every mark that is none, which has no room. */
+static void rooms(void) {
+    int good = 1;
+    for (int k = 0; k < KINDS; k++) {
+        for (unsigned value = 0; value < 256; value++) {
+            uint8_t *bytes = lent(all[k].bytes, all[k].length);
+            bytes[2] = (uint8_t)value;
+            good &= room_record_room(bytes, all[k].length) == (all[k].room == 256 ? 256 : value);
+            bytes[0] ^= (uint8_t)(value | 0x80); /* no mark has this bit */
+            good &= room_record_room(bytes, all[k].length) == 256;
+            give_back(bytes, all[k].length);
+        }
+    }
+    verdict(good, "the room of a record");
+}
+
+/* A desk's 25 words: word 0 the seat; of room r word 1 + 3r the start number, 2 + 3r the view number, 3 + 3r whether a
+ * change is open, any word but 0. */
+static void desk_words(void) {
+    uint32_t words[25], *desk = (uint32_t *)malloc(sizeof words);
+    int good = 1;
+    if (desk == NULL) {
+        exit(1);
+    }
+    for (uint32_t i = 0; i < 25; i++) {
+        words[i] = 1000 + i;
+    }
+    words[3 + 3 * 2] = 0, words[3 + 3 * 7] = 0, words[3 + 3 * 5] = 0x80000000u;
+    memcpy(desk, words, sizeof words);
+    good &= room_desk_seat(desk) == 1000;
+    for (uint32_t r = 0; r < 8; r++) {
+        good &= room_desk_start(desk, r) == 1001 + 3 * r && room_desk_view(desk, r) == 1002 + 3 * r;
+        good &= room_desk_open(desk, r) == (r != 2 && r != 7);
+    }
+    for (unsigned r = 8; r < 300; r++) {
+        good &= room_desk_start(desk, r) == 0 && room_desk_view(desk, r) == 0 && room_desk_open(desk, r) == 0;
+    }
+    good &= room_desk_start(desk, ~0u) == 0 && room_desk_view(desk, ~0u) == 0 && room_desk_open(desk, ~0u) == 0;
+    verdict(good && memcmp(desk, words, sizeof words) == 0, "the words of a desk");
+    free(desk);
+}
+
 /* Goes through these bytes; the answer is how many records were taken. Each must be the next of the row and the rest
  * must begin behind it. */
 static int taken(const uint8_t *bytes, size_t length, const int *row, int *good) {
@@ -207,7 +253,7 @@ static int taken(const uint8_t *bytes, size_t length, const int *row, int *good)
     int count = 0;
     for (; room_next(&s); count++) {
         *good &= count < 3 && s.record == all[row[count]].record && s.bytes == bytes + at &&
-                 s.length == all[row[count]].length && s.members == members &&
+                 s.length == all[row[count]].length && s.room == bytes[at + 2] && s.members == members &&
                  s.to_seats == (s.record != ROOM_PROPOSAL);
         at += s.length;
         *good &= s.rest == bytes + at && s.left == length - at;
@@ -216,10 +262,10 @@ static int taken(const uint8_t *bytes, size_t length, const int *row, int *good)
     return count;
 }
 
-/* The outputs of none to three records: whole, cut after every byte, and with every other value of both bytes of
- * every mark, among them the marks of records that no office sends. */
+/* The outputs of none to three records: whole, cut after every byte, with every byte as the room of each record, and
+ * with every other value of both bytes of every mark, among them the marks of records that no office sends. */
 static void output(const int *row, int count, unsigned long *cases) {
-    uint8_t bytes[3 * 84];
+    uint8_t bytes[3 * 85];
     size_t starts[4] = {0, 0, 0, 0};
     int good = 1;
     for (int i = 0; i < count; i++) {
@@ -241,6 +287,12 @@ static void output(const int *row, int count, unsigned long *cases) {
             uint8_t *at = other + starts[i] + value / 256, kept = *at;
             *at = (uint8_t)value;
             good &= taken(other, starts[count], row, &good) == (*at == kept ? count : i);
+            give_back(other, starts[count]);
+        }
+        for (unsigned value = 0; value < 256; value++, ++*cases) {
+            uint8_t *other = lent(bytes, starts[count]);
+            other[starts[i] + 2] = (uint8_t)value;
+            good &= taken(other, starts[count], row, &good) == count;
             give_back(other, starts[count]);
         }
         for (int k = 0; k < KINDS; k++) {
@@ -271,7 +323,9 @@ int main(int count, char **words) {
     answers();
     texts(count > 1 ? (unsigned)atoi(words[1]) : 0);
     fields();
+    rooms();
     outputs();
+    desk_words();
     printf("%u passed, %u failed\n", passed, failed);
     return failed == 0 ? 0 : 1;
 }

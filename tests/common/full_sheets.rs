@@ -87,7 +87,7 @@ fn bad_places(t: &mut Tally) {
             for change in BAD.into_iter().chain(NOT_BAD) {
                 let mut changed = sheet.clone();
                 change(&mut changed[BYTES * at..BYTES * at + BYTES]);
-                t.ask(&changed, &view.bytes(), own);
+                t.ask_sheet(&changed, &view, own);
             }
         }
     });
@@ -105,7 +105,7 @@ fn two_bad(t: &mut Tally) {
             let second = first + 1 + r.below(records - 1 - first);
             choice(&mut rest, &BAD)(&mut sheet[BYTES * first..BYTES * first + BYTES]);
             choice(&mut rest, &BAD)(&mut sheet[BYTES * second..BYTES * second + BYTES]);
-            t.ask(&sheet, &view.bytes(), own);
+            t.ask_sheet(&sheet, &view, own);
         }
     });
 }
@@ -117,7 +117,7 @@ fn lengths(t: &mut Tally) {
         let long = bytes(&(0..70_000).map(|_| beside(&mut r, &view, 7)).collect::<Vec<Sync>>());
         let far = [600, 1024, 5632, 5958, 65_536, 65_537, 65_536 + 512].map(|records| BYTES * records);
         for length in (0..=5700).chain(far) {
-            t.ask(&long[..length], &view.bytes(), 7);
+            t.ask_sheet(&long[..length], &view, 7);
         }
     });
 }

@@ -1,7 +1,8 @@
-// Change request 7, written from documents 01 and 02, with the form of the answers by include/room.h: the file of high
-// marks, the state with which an office begins again, and what the file must hold before a record leaves.
-use crate::model::{number, L};
-use crate::rows::{fresh, NUMBER, START, VIEW_NUMBER, WORDS};
+// Change request 7 with the rooms of change request 9, written from documents 01 and 02, with the form of the answers
+// by include/room.h: the file of high marks, the table with which an office begins again, and what the file must hold
+// before a record of any room leaves.
+use crate::model::{number, L, NOTICE, PROPOSAL, ROOMS, VIEW};
+use crate::rows::{fresh_table, place, NUMBER, START, TABLE, VIEW_NUMBER};
 use std::ops::{Range, RangeInclusive};
 
 pub const BYTES: usize = 10;
@@ -133,25 +134,32 @@ impl File {
 
 // The restart
 
-// The number of the request, and the row as it then is; the last mark is that of the file.
-pub fn restart(office: u8, last: Option<u32>, row: &mut [u32]) -> u8 {
-    let of_state = row.len() == WORDS;
-    let refusals = [(1, office > 15), (18, last.is_none()), (2, !of_state)];
+// The number of the request, and the table as it then is; the last mark is that of the file.
+pub fn restart(office: u8, last: Option<u32>, table: &mut [u32]) -> u8 {
+    let whole = table.len() == TABLE;
+    let refusals = [(1, office > 15), (18, last.is_none()), (2, !whole)];
     let refusal = refusals.into_iter().find(|(_, applies)| *applies).map_or(0, |(n, _)| n);
-    if of_state {
+    if whole {
         // 1 and 18 give back office 0
-        let own = if refusal == 0 { office as usize } else { 0 };
-        row.copy_from_slice(&fresh(own));
-        if refusal == 0 {
-            [START, NUMBER, VIEW_NUMBER].into_iter().for_each(|at| row[at] = last.unwrap());
-        }
+        table.copy_from_slice(&if refusal == 0 { begun(office, last.unwrap()) } else { fresh_table(0) });
     }
     refusal
 }
 
+// The table of an office that begins at a number in every room.
+pub fn begun(office: u8, number: u32) -> Vec<u32> {
+    let mut table = fresh_table(office as usize);
+    for room in 0..ROOMS {
+        let row = &mut table[place(room)];
+        [START, NUMBER, VIEW_NUMBER].into_iter().for_each(|at| row[at] = number);
+    }
+    table
+}
+
 // Records that leave
 
-// A kind of record, by docs/LAYOUT.md, with the bytes in which its four-byte numbers stand.
+// A kind of record, by docs/LAYOUT.md, with the bytes in which its four-byte numbers stand. Behind the mark is the
+// room, any byte.
 pub struct Kind {
     pub name: &'static str,
     pub mark: [u8; 2],
@@ -160,9 +168,9 @@ pub struct Kind {
 }
 
 pub const KINDS: [Kind; 3] = [
-    Kind { name: "start notice", mark: *b"SC", length: 14, numbers: &[2..6] },
-    Kind { name: "proposal", mark: *b"PR", length: 84, numbers: &[12..16, 16..20, 20..84] },
-    Kind { name: "view", mark: *b"VW", length: 78, numbers: &[2..6, 14..78] },
+    Kind { name: "start notice", mark: *b"SC", length: NOTICE, numbers: &[3..7] },
+    Kind { name: "proposal", mark: *b"PR", length: PROPOSAL, numbers: &[13..17, 17..21, 21..85] },
+    Kind { name: "view", mark: *b"VW", length: VIEW, numbers: &[3..7, 15..79] },
 ];
 
 impl Kind {

@@ -1,9 +1,27 @@
-// The office of document 01, its step and its program, written from that document. Numbers are those of the
-// document, and the parts stand in its order.
+// The office of document 01, its step and its program, with the eight rooms of change request 9, written from the two
+// documents. Numbers are those of document 01, and the parts stand in its order. The room travels beside the rest:
+//   report, notice, Proposal::bytes and View::bytes   a record's bytes, the room given first; any byte may be one
+//   room_of, number, set, Proposal::read              parts of a record's bytes; what is read has no room
+//   mark_length, written_length                       lengths by a mark
+//   form_refusal                                      what no state decides: 3, 4, 5 and 20
+//   Office                                            the state of one room at one office
+//   Office::step                                      one event on it, where nothing else is: 2 is of this state alone
+//   Office::waiting_for                               change request 1 of this state, 2 of this state alone
+//   Table                                             eight states, each with its own office number
+//   Table::step                                       one event: 2 is of all eight, the record's room alone changes
+//   Table::waiting_for                                2 of all eight, then 20, then the answer of that room
+//   program                                           the program: the records of an input, a line for each
 use std::io::Read;
 
 pub const L: u32 = 2_000_000_000;
-pub const ROOM: usize = 182;
+pub const ROOMS: usize = 8;
+// The output that a step asks for: a notice and two proposals.
+pub const CAPACITY: usize = 185;
+
+pub const REPORT: usize = 19;
+pub const PROPOSAL: usize = 85;
+pub const NOTICE: usize = 15;
+pub const VIEW: usize = 79;
 
 pub const FAST: u8 = 1;
 pub const SLOW: u8 = 2;
@@ -33,10 +51,22 @@ fn put_sixteen(out: &mut Vec<u8>, numbers: &[u32; 16]) {
     }
 }
 
-pub fn report(joining: u64, leaving: u64) -> Vec<u8> {
-    let mut record = vec![0x4e, 0x45];
+// The room of a record that has its mark's length.
+pub fn room_of(record: &[u8]) -> u8 {
+    record[2]
+}
+
+pub fn report(room: u8, joining: u64, leaving: u64) -> Vec<u8> {
+    let mut record = vec![0x4e, 0x45, room];
     record.extend(joining.to_be_bytes());
     record.extend(leaving.to_be_bytes());
+    record
+}
+
+pub fn notice(room: u8, start: u32, members: u64) -> Vec<u8> {
+    let mut record = vec![0x53, 0x43, room];
+    record.extend(start.to_be_bytes());
+    record.extend(members.to_be_bytes());
     record
 }
 
@@ -54,29 +84,29 @@ impl Proposal {
     pub fn read(record: &[u8]) -> Proposal {
         let mut used = [0; 16];
         for (k, u) in used.iter_mut().enumerate() {
-            *u = number(record, 20 + 4 * k);
+            *u = number(record, 21 + 4 * k);
         }
         Proposal {
-            sender: record[2],
-            kind: record[3],
-            members: set(record, 4),
-            start: number(record, 12),
-            number: number(record, 16),
+            sender: record[3],
+            kind: record[4],
+            members: set(record, 5),
+            start: number(record, 13),
+            number: number(record, 17),
             used,
         }
     }
 
-    pub fn write(&self, out: &mut Vec<u8>) {
-        out.extend([0x50, 0x52, self.sender, self.kind]);
+    fn write(&self, room: u8, out: &mut Vec<u8>) {
+        out.extend([0x50, 0x52, room, self.sender, self.kind]);
         out.extend(self.members.to_be_bytes());
         out.extend(self.start.to_be_bytes());
         out.extend(self.number.to_be_bytes());
         put_sixteen(out, &self.used);
     }
 
-    pub fn bytes(&self) -> Vec<u8> {
+    pub fn bytes(&self, room: u8) -> Vec<u8> {
         let mut out = Vec::new();
-        self.write(&mut out);
+        self.write(room, &mut out);
         out
     }
 }
@@ -89,16 +119,16 @@ pub struct View {
 }
 
 impl View {
-    fn write(&self, out: &mut Vec<u8>) {
-        out.extend([0x56, 0x57]);
+    fn write(&self, room: u8, out: &mut Vec<u8>) {
+        out.extend([0x56, 0x57, room]);
         out.extend(self.number.to_be_bytes());
         out.extend(self.members.to_be_bytes());
         put_sixteen(out, &self.starts);
     }
 
-    pub fn bytes(&self) -> Vec<u8> {
+    pub fn bytes(&self, room: u8) -> Vec<u8> {
         let mut out = Vec::new();
-        self.write(&mut out);
+        self.write(room, &mut out);
         out
     }
 }
@@ -106,15 +136,30 @@ impl View {
 // The length that a report's or a proposal's mark calls for.
 pub fn mark_length(record: &[u8]) -> Option<usize> {
     match record {
-        [0x4e, 0x45, ..] => Some(18),
-        [0x50, 0x52, ..] => Some(84),
+        [0x4e, 0x45, ..] => Some(REPORT),
+        [0x50, 0x52, ..] => Some(PROPOSAL),
         _ => None,
     }
 }
 
 // The length of the record in front of what an office wrote.
 pub fn written_length(rest: &[u8]) -> usize {
-    mark_length(rest).unwrap_or(if rest[0] == b'S' { 14 } else { 78 })
+    mark_length(rest).unwrap_or(if rest[0] == b'S' { NOTICE } else { VIEW })
+}
+
+// The reasons to refuse that no state decides: 3, 4, 5 and change request 9's 20.
+pub fn form_refusal(record: &[u8], capacity: usize) -> u8 {
+    if capacity < CAPACITY {
+        return 3;
+    }
+    let Some(length) = mark_length(record) else { return 4 };
+    if record.len() != length {
+        5
+    } else if room_of(record) as usize >= ROOMS {
+        20
+    } else {
+        0
+    }
 }
 
 // State
@@ -166,17 +211,28 @@ impl Office {
 
     // One event: the number of document 01. What is written stands in `out`; a refusal leaves the office as it was
     // and `out` empty.
-    pub fn step(&mut self, record: &[u8], room: usize, out: &mut Vec<u8>) -> u8 {
+    pub fn step(&mut self, record: &[u8], capacity: usize, out: &mut Vec<u8>) -> u8 {
         out.clear();
-        let refusal = self.refusal(record, room);
+        if self.malformed() {
+            return 2;
+        }
+        match form_refusal(record, capacity) {
+            0 => self.act(record, out),
+            refusal => refusal,
+        }
+    }
+
+    // A record that passes checks 2 to 5 and 20: 6 to 13 and 19, or 0. What is written carries its room.
+    fn act(&mut self, record: &[u8], out: &mut Vec<u8>) -> u8 {
+        let proposal = (record.len() == PROPOSAL).then(|| Proposal::read(record));
+        let refusal = proposal.map_or(0, |p| self.proposal_refusal(&p));
         if refusal != 0 {
             return refusal;
         }
-        let mut event = Event { office: *self, largest: 0, out };
-        if record.len() == 18 {
-            event.report(set(record, 2), set(record, 10));
-        } else {
-            event.proposal(Proposal::read(record));
+        let mut event = Event { office: *self, room: room_of(record), largest: 0, out };
+        match proposal {
+            None => event.report(set(record, 3), set(record, 11)),
+            Some(p) => event.proposal(p),
         }
         if event.largest > L {
             event.out.clear();
@@ -186,21 +242,7 @@ impl Office {
         0
     }
 
-    // Reasons to refuse, 2 to 12 and 19.
-    fn refusal(&self, record: &[u8], room: usize) -> u8 {
-        if self.malformed() {
-            return 2;
-        }
-        if room < ROOM {
-            return 3;
-        }
-        let Some(length) = mark_length(record) else { return 4 };
-        if record.len() != length {
-            return 5;
-        }
-        if length == 84 { self.proposal_refusal(&Proposal::read(record)) } else { 0 }
-    }
-
+    // Reasons to refuse, 6 to 12 and 19.
     fn proposal_refusal(&self, p: &Proposal) -> u8 {
         let sender = p.sender as usize;
         if sender > 15 || sender == self.own {
@@ -225,7 +267,7 @@ impl Office {
         }
     }
 
-    fn malformed(&self) -> bool {
+    pub fn malformed(&self) -> bool {
         self.own > 15 || self.numbers().any(|n| n > L)
     }
 
@@ -288,6 +330,7 @@ impl Office {
 // The office as an event leaves it, the largest number that the event made, and what it writes.
 struct Event<'a> {
     office: Office,
+    room: u8,
     largest: u32,
     out: &'a mut Vec<u8>,
 }
@@ -321,9 +364,7 @@ impl Event<'_> {
     // Step 3, but for the mode.
     fn open(&mut self) {
         self.office.start = self.make(self.office.view.number.max(self.office.start + 1));
-        self.out.extend([0x53, 0x43]);
-        self.out.extend(self.office.start.to_be_bytes());
-        self.out.extend(self.office.net.to_be_bytes());
+        self.out.extend(notice(self.room, self.office.start, self.office.net));
     }
 
     fn propose(&mut self, kind: u8, written: bool) {
@@ -337,7 +378,7 @@ impl Event<'_> {
         let p = Proposal { sender: o.own as u8, kind, members: o.net, start: o.start, number: o.number, used };
         o.stored[o.own] = Some(p);
         if written {
-            p.write(self.out);
+            p.write(self.room, self.out);
         }
     }
 
@@ -381,27 +422,66 @@ impl Event<'_> {
         let number = self.make(1 + starts.into_iter().max().unwrap());
         self.office.view = View { number, members: self.office.net, starts };
         self.office.mode = Mode::None;
-        self.office.view.write(self.out);
+        self.office.view.write(self.room, self.out);
+    }
+}
+
+// Eight rooms: change request 9
+
+#[derive(Clone, PartialEq)]
+pub struct Table {
+    pub rooms: [Office; ROOMS],
+}
+
+impl Table {
+    pub fn fresh(own: usize) -> Table {
+        Table { rooms: [Office::fresh(own); ROOMS] }
+    }
+
+    // One event at one office, as for one room.
+    pub fn step(&mut self, record: &[u8], capacity: usize, out: &mut Vec<u8>) -> u8 {
+        out.clear();
+        if self.malformed() {
+            return 2;
+        }
+        match form_refusal(record, capacity) {
+            0 => self.rooms[room_of(record) as usize].act(record, out),
+            refusal => refusal,
+        }
+    }
+
+    pub fn malformed(&self) -> bool {
+        self.rooms.iter().any(|office| office.malformed())
+    }
+
+    pub fn waiting_for(&self, room: u8) -> Waiting {
+        if self.malformed() {
+            return Waiting::Refused(2);
+        }
+        self.rooms.get(room as usize).map_or(Waiting::Refused(20), |office| office.waiting_for())
     }
 }
 
 // The program
 
-// A line of the program, with its record, the office as the event left it and the bytes that the event wrote.
+// A line of the program, with its record, the table as the event left it, the bytes that the event wrote and the view
+// number that is printed.
 pub struct Line<'a> {
     pub number: u64,
     pub refusal: u8,
     pub record: &'a [u8],
-    pub office: &'a Office,
+    pub table: &'a Table,
     pub bytes: &'a [u8],
+    pub view_number: u32,
 }
 
 pub fn program(input: &mut impl Read, mut each: impl FnMut(Line)) {
-    let mut record = [0; 84];
+    let mut record = [0; PROPOSAL];
     if fill(input, &mut record[..1]) == 0 || record[0] > 15 {
-        return each(Line { number: 0, refusal: 1, record: &[], office: &Office::fresh(0), bytes: &[] });
+        let table = &Table::fresh(0);
+        return each(Line { number: 0, refusal: 1, record: &[], table, bytes: &[], view_number: 0 });
     }
-    let mut office = Office::fresh(record[0] as usize);
+    let mut table = Table::fresh(record[0] as usize);
     let mut out = Vec::new();
     for number in 1.. {
         let mut got = fill(input, &mut record[..2]);
@@ -411,8 +491,13 @@ pub fn program(input: &mut impl Read, mut each: impl FnMut(Line)) {
         if let Some(length) = mark_length(&record[..got]) {
             got += fill(input, &mut record[2..length]);
         }
-        let refusal = office.step(&record[..got], ROOM, &mut out);
-        each(Line { number, refusal, record: &record[..got], office: &office, bytes: &out });
+        let record = &record[..got];
+        let refusal = table.step(record, CAPACITY, &mut out);
+        let view_number = match refusal {
+            4 | 5 | 20 => 0,
+            _ => table.rooms[room_of(record) as usize].view.number,
+        };
+        each(Line { number, refusal, record, table: &table, bytes: &out, view_number });
         if refusal == 4 || refusal == 5 {
             return;
         }

@@ -2,7 +2,7 @@
 // those that it builds on never.
 use crate::inputs::some;
 use crate::model::{has_seat, number, offices, report, written_length};
-use crate::model::{Mode, Office, Proposal, View, FAST, L, ROOM, SLOW};
+use crate::model::{Mode, Office, Proposal, View, CAPACITY, FAST, L, NOTICE, PROPOSAL, ROOMS, SLOW};
 use crate::random::Random;
 use crate::{rows, Compared, Tally};
 
@@ -70,9 +70,10 @@ const KINDS: [(&str, usize); 12] = [
     ("a proposal number replaced or stored outside the net view", 0),
 ];
 
-// An office and an event at it.
+// An office in a room, and an event at it.
 #[derive(Clone)]
 struct Case {
+    room: u8,
     office: Office,
     event: Event,
     report: Vec<u8>,
@@ -108,7 +109,8 @@ impl Case {
         let number = if mode == Mode::Slow { round } else { round - random.below(2) as u32 };
         let view = View { number: low(random), members: before, starts: [0; 16] };
         let office = Office { mode, net: before, view, start: low(random), number, ..Office::fresh(own) };
-        let mut case = Case { office, event, report: Vec::new(), received: None, using: Vec::new(), net };
+        let room = random.below(ROOMS) as u8;
+        let mut case = Case { room, office, event, report: Vec::new(), received: None, using: Vec::new(), net };
         case.store(random, inside, round);
         if let Event::Proposal { matches, kind, .. } = event {
             let members = if matches { net } else { net | 1 << (4 * own) | 1 << (4 * sender) | 1 << (4 * absent) };
@@ -162,7 +164,7 @@ impl Case {
             self.office.net = net & !came | if nobody { 1 << (!net).trailing_zeros() } else { went };
         }
         let (before, both) = (self.office.net, any & !net & random.next());
-        self.report = report(net & !before | any & net | both, before & !net | both);
+        self.report = report(self.room, net & !before | any & net | both, before & !net | both);
     }
 
     fn bases(&self) -> Vec<Base> {
@@ -244,7 +246,7 @@ impl Case {
         p.used[sender] = some(random, &[0, p.number - 1]);
         p.used[office.own] = if uses { office.number } else { office.number - 1 };
         office.accepted[sender] = some(random, &[0, p.number - 1]);
-        p.bytes()
+        p.bytes(self.room)
     }
 
     fn row(&self) -> Vec<u32> {
@@ -277,6 +279,8 @@ struct Met {
     pairs: [[Answers; FAR]; FAR],
     // by event, mode and offices in the net view
     events: [[[Answers; MOST]; 3]; 11],
+    // by room
+    rooms: [Answers; ROOMS],
     // accepted, with a notice, a proposal, a view of number L
     made: [u64; 3],
     idle: u64,
@@ -286,15 +290,16 @@ struct Met {
 
 impl Met {
     // The answer's place.
-    fn count(&mut self, refusal: u8, written: &[u8], low_enough: bool) -> usize {
+    fn count(&mut self, room: u8, refusal: u8, written: &[u8], low_enough: bool) -> usize {
+        self.rooms[room as usize][(refusal == 0) as usize] += 1;
         self.strange += (![0, 13].contains(&refusal) || refusal == 13 && low_enough) as u64;
         let mut rest = written;
         while !rest.is_empty() {
             let (record, more) = rest.split_at(written_length(rest));
             let (kind, at) = match record.len() {
-                14 => (0, 2),
-                84 => (1, 16),
-                _ => (2, 2),
+                NOTICE => (0, 3),
+                PROPOSAL => (1, 17),
+                _ => (2, 3),
             };
             self.made[kind] += (number(record, at) == L) as u64;
             rest = more;
@@ -322,10 +327,10 @@ fn alone(c: &mut Compared, met: &mut Met) {
                 let mut raised = case.clone();
                 raised.raise(base, L - distance as u32);
                 let record = raised.record(r);
-                let refusal = c.aside(&raised.row(), &record, ROOM);
+                let refusal = c.aside_row(case.room, &raised.row(), &record, CAPACITY);
                 let kind = case.kind(base);
                 let low_enough = !makes(case.event) || distance >= KINDS[kind].1;
-                let answer = met.count(refusal, &c.written, low_enough);
+                let answer = met.count(case.room, refusal, &c.written, low_enough);
                 met.alone[kind][distance][answer] += 1;
                 met.events[event][mode][count][answer] += 1;
             }
@@ -350,10 +355,10 @@ fn pairs(c: &mut Compared, met: &mut Met) {
                 if r.below(2) == 0 {
                     fill_empty(r, &mut row);
                 }
-                let refusal = c.aside(&row, &record, ROOM);
+                let refusal = c.aside_row(case.room, &row, &record, CAPACITY);
                 // an event adds at most 2
                 let low_enough = !makes(case.event) || distances.iter().all(|&d| d >= 2);
-                let answer = met.count(refusal, &c.written, low_enough);
+                let answer = met.count(case.room, refusal, &c.written, low_enough);
                 met.pairs[distances[0]][distances[1]][answer] += 1;
                 met.events[event][mode][count][answer] += 1;
             }
@@ -367,8 +372,8 @@ fn idle(c: &mut Compared, met: &mut Met) {
         let record = case.record(r);
         let mut row = case.row();
         fill_empty(r, &mut row);
-        let refusal = c.aside(&row, &record, ROOM);
-        met.count(refusal, &c.written, true);
+        let refusal = c.aside_row(case.room, &row, &record, CAPACITY);
+        met.count(case.room, refusal, &c.written, true);
         met.idle += 1;
     });
 }
@@ -379,6 +384,10 @@ pub fn all(t: &mut Tally) {
     t.case("two numbers near L", |c| pairs(c, &mut met));
     t.case("near L only what no event builds on, and where nothing is stored", |c| idle(c, &mut met));
     t.verdicts.check("near L: 13 only where a number above L is made, and no other refusal", met.strange == 0);
+    for (answer, what) in ["13", "accepted"].into_iter().enumerate() {
+        let least = met.rooms.iter().map(|n| n[answer]).min().unwrap();
+        t.often(&format!("near L: {what}, of the room with fewest"), least, 5000);
+    }
     t.often("high numbers that no event builds on", met.idle, 40_000);
     for (k, what) in ["notices", "proposals", "views"].into_iter().enumerate() {
         t.often(&format!("{what} of number L"), met.made[k], 1000);

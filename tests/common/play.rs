@@ -1,6 +1,12 @@
-// Plays of several offices that run by the model, with reports that come late, differ or repeat, lost and re-ordered
-// proposals, and forged ones. What one office is handed on the way is an input of the program.
-use crate::model::{has_seat, offices, report, written_length, Office, Proposal, FAST, L, ROOM, SLOW};
+// Plays of several offices that run by the model in one room or more, with reports that come late, differ or repeat,
+// lost and re-ordered proposals, and forged ones. A link carries the proposals of all rooms in one row. What one
+// office is handed on the way is an input of the program.
+//   Play::new          fresh offices with a table each; the rooms are those in use, each below 8
+//   go, go_telling     events in all these rooms, one after another at random
+//   hand               one event at one office
+//   table, office      the table of the office whose input is kept, and its state in a room
+use crate::model::{has_seat, offices, report, room_of, written_length};
+use crate::model::{Office, Proposal, Table, CAPACITY, FAST, L, PROPOSAL, REPORT, ROOMS, SLOW};
 use crate::random::Random;
 use crate::repeats::{is_repeat, repeat};
 use std::collections::VecDeque;
@@ -17,6 +23,8 @@ pub struct Habits {
     pub swap: usize,
     pub forged: usize,
     pub damaged: usize,
+    // reports and proposals with a room above 7
+    pub stray: usize,
 }
 
 pub struct Play {
@@ -26,10 +34,12 @@ pub struct Play {
     pool: u64,
     // the office whose input is kept
     kept: usize,
-    offices: [Office; 16],
+    rooms: Vec<u8>,
+    offices: Vec<Table>,
     links: Vec<VecDeque<Vec<u8>>>,
+    // for each office and room
     reports: Vec<VecDeque<(u64, u64)>>,
-    // the last report of each office that was no repeat
+    // the last report of each office and room that was no repeat
     last: Vec<Vec<u8>>,
     // the office of the last event, and what it wrote
     at: usize,
@@ -39,16 +49,17 @@ pub struct Play {
 }
 
 impl Play {
-    pub fn new(random: Random, habits: Habits, pool: u64, kept: usize) -> Play {
+    pub fn new(random: Random, habits: Habits, pool: u64, kept: usize, rooms: &[u8]) -> Play {
         Play {
             random,
             habits,
             pool,
             kept,
-            offices: std::array::from_fn(Office::fresh),
+            rooms: rooms.to_vec(),
+            offices: (0..16).map(Table::fresh).collect(),
             links: vec![VecDeque::new(); 256],
-            reports: vec![VecDeque::new(); 16],
-            last: vec![Vec::new(); 16],
+            reports: vec![VecDeque::new(); 16 * ROOMS],
+            last: vec![Vec::new(); 16 * ROOMS],
             at: kept,
             out: Vec::new(),
             input: vec![kept as u8],
@@ -57,8 +68,12 @@ impl Play {
     }
 
     // The office whose input is kept, as its last event left it.
-    pub fn office(&self) -> &Office {
+    pub fn table(&self) -> &Table {
         &self.offices[self.kept]
+    }
+
+    pub fn office(&self, room: u8) -> &Office {
+        &self.table().rooms[room as usize]
     }
 
     // Events until the input has so many records.
@@ -68,8 +83,10 @@ impl Play {
 
     // The same; each office that writes something is told of, with what it writes.
     pub fn go_telling(&mut self, records: usize, mut tell: impl FnMut(usize, &[u8])) {
-        let first = self.some_seats() | 1 << (4 * self.kept);
-        self.tell_all(first, 0);
+        for room in self.rooms.clone() {
+            let first = self.some_seats() | 1 << (4 * self.kept);
+            self.tell_all(room, first, 0);
+        }
         while self.records < records {
             self.out.clear();
             self.event();
@@ -81,54 +98,71 @@ impl Play {
 
     fn event(&mut self) {
         let h = &self.habits;
-        let bounds = [h.change, h.own_report, h.back, h.repeat, h.loss, h.swap, h.forged, h.damaged];
+        let bounds = [h.change, h.own_report, h.back, h.repeat, h.loss, h.swap, h.forged, h.damaged, h.stray];
         let mut at = self.random.below(1000);
         let mut kind = 0;
         while kind < bounds.len() && at >= bounds[kind] {
             at -= bounds[kind];
             kind += 1;
         }
+        let room = self.some_room();
         match kind {
             0 => {
                 let (joining, leaving) = (self.some_seats(), self.some_seats());
-                self.tell_all(joining, leaving);
+                self.tell_all(room, joining, leaving);
             }
             1 => {
                 let to = self.some_office();
                 let (joining, leaving) = (self.some_seats(), self.some_seats());
-                self.hand(to, &report(joining, leaving));
+                self.hand(to, &report(room, joining, leaving));
             }
-            2 => self.back(),
+            2 => self.back(room),
             3 => {
                 let to = self.some_office();
-                let record = repeat(&mut self.random, self.offices[to].net, &self.last[to]);
+                let net = self.offices[to].rooms[room as usize].net;
+                let record = repeat(&mut self.random, room, net, &self.last[of(to, room)]);
                 self.hand(to, &record);
             }
             4 => self.lose(),
             5 => self.swap(),
             6 => {
-                let p = self.forged();
-                self.hand(self.kept, &p.bytes());
+                let p = self.forged(room);
+                self.hand(self.kept, &p.bytes(room));
             }
             7 => {
-                let p = self.forged();
-                let p = self.damaged(p);
-                self.hand(self.kept, &p.bytes());
+                let p = self.forged(room);
+                let p = self.damaged(room, p);
+                // as often as one field of it, the room is another
+                let other = if self.random.below(8) == 0 { self.random.next() as u8 % 9 } else { room };
+                self.hand(self.kept, &p.bytes(other));
             }
-            _ => self.report_or_delivery(),
+            8 => {
+                let above = self.above();
+                let p = self.forged(room);
+                let (joining, leaving) = (self.some_seats(), self.some_seats());
+                let record = if self.random.below(2) == 0 { report(above, joining, leaving) } else { p.bytes(above) };
+                self.hand(self.kept, &record);
+            }
+            _ => self.report_or_delivery(room),
         }
+    }
+
+    // A room above 7, one of the next to it or any.
+    fn above(&mut self) -> u8 {
+        let any = 8 + self.random.below(248) as u8;
+        [8, 9, 15, 16, 128, 255, any, any][self.random.below(8)]
     }
 
     // Seats leave one office's net view with its next report and come back with the one after, so that it proposes
     // anew what others may have agreed on, and what slow proposals are stored for. In one case of four all seats but
     // its own.
-    fn back(&mut self) {
+    fn back(&mut self, room: u8) {
         let to = self.some_office();
         let some = if self.random.below(4) == 0 { !(15 << (4 * to)) } else { self.some_seats() };
-        let seats = some & self.offices[to].net;
+        let seats = some & self.offices[to].rooms[room as usize].net;
         if seats != 0 {
-            self.reports[to].push_front((seats, 0));
-            self.reports[to].push_front((0, seats));
+            self.reports[of(to, room)].push_front((seats, 0));
+            self.reports[of(to, room)].push_front((0, seats));
         }
     }
 
@@ -150,11 +184,12 @@ impl Play {
         }
     }
 
-    fn report_or_delivery(&mut self) {
+    // The oldest proposal on a link is of any room.
+    fn report_or_delivery(&mut self, room: u8) {
         let to = self.some_office();
         if self.random.below(4) == 0 {
-            if let Some((joining, leaving)) = self.reports[to].pop_front() {
-                self.hand(to, &report(joining, leaving));
+            if let Some((joining, leaving)) = self.reports[of(to, room)].pop_front() {
+                self.hand(to, &report(room, joining, leaving));
                 return;
             }
         }
@@ -166,9 +201,9 @@ impl Play {
     }
 
     // The same change for each office, to be handed to it some time later.
-    fn tell_all(&mut self, joining: u64, leaving: u64) {
+    fn tell_all(&mut self, room: u8, joining: u64, leaving: u64) {
         for to in offices(self.pool | 1 << (4 * self.kept)) {
-            self.reports[to].push_back((joining, leaving));
+            self.reports[of(to, room)].push_back((joining, leaving));
         }
     }
 
@@ -178,19 +213,23 @@ impl Play {
             self.input.extend_from_slice(record);
             self.records += 1;
         }
-        if record.len() == 18 && !is_repeat(self.offices[to].net, record) {
-            self.last[to] = record.to_vec();
+        let room = room_of(record);
+        if record.len() == REPORT && (room as usize) < ROOMS {
+            if !is_repeat(self.offices[to].rooms[room as usize].net, record) {
+                self.last[of(to, room)] = record.to_vec();
+            }
         }
         self.at = to;
-        let refusal = self.offices[to].step(record, ROOM, &mut self.out);
+        let refusal = self.offices[to].step(record, CAPACITY, &mut self.out);
         let mut rest = &self.out[..];
         while !rest.is_empty() {
             let length = written_length(rest);
-            if length == 84 {
+            assert_eq!(room_of(rest), room, "what an event writes is of the room of its record");
+            if length == PROPOSAL {
                 let p = Proposal::read(rest);
                 assert!(p.used[to] < p.number, "what an office has used of its own is below its next number");
                 for other in offices(p.members).filter(|&o| o != to) {
-                    self.links[16 * to + other].push_back(rest[..84].to_vec());
+                    self.links[16 * to + other].push_back(rest[..PROPOSAL].to_vec());
                 }
             }
             rest = &rest[length..];
@@ -216,6 +255,14 @@ impl Play {
         all[self.random.below(all.len())]
     }
 
+    // With one room no random number is taken, so that the rest of a play does not depend on there being rooms.
+    fn some_room(&mut self) -> u8 {
+        match self.rooms[..] {
+            [room] => room,
+            _ => self.rooms[self.random.below(self.rooms.len())],
+        }
+    }
+
     fn some_link(&mut self) -> usize {
         16 * self.some_office() + self.some_office()
     }
@@ -225,8 +272,8 @@ impl Play {
     }
 
     // A proposal that passes the checks more often than not, with numbers that matter to the office.
-    fn forged(&mut self) -> Proposal {
-        let o = *self.office();
+    fn forged(&mut self, room: u8) -> Proposal {
+        let o = *self.office(room);
         let others: Vec<usize> = offices(o.net).filter(|&k| k != o.own).collect();
         let sender = if others.is_empty() { self.random.below(16) } else { others[self.random.below(others.len())] };
         let mut members = o.net;
@@ -254,9 +301,9 @@ impl Play {
     }
 
     // One or two fields of a proposal changed.
-    fn damaged(&mut self, p: Proposal) -> Proposal {
+    fn damaged(&mut self, room: u8, p: Proposal) -> Proposal {
         let mut p = p;
-        let o = *self.office();
+        let o = *self.office(room);
         for _ in 0..1 + self.random.below(2) {
             let office = self.random.below(16);
             let number = [0, 1, L - 1, L, L + 1, u32::MAX, o.number, o.start][self.random.below(8)];
@@ -281,6 +328,11 @@ impl Play {
         }
         p
     }
+}
+
+// The place of an office's reports in a room.
+fn of(office: usize, room: u8) -> usize {
+    ROOMS * office + room as usize
 }
 
 // A used number for the sender of a proposal with this number: the one given or less, so that it is below the

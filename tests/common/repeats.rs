@@ -1,22 +1,22 @@
 // Reports that change nothing: how they are made, and of which kinds those are that an office was handed.
-use crate::model::{has_seat, report, set, Mode, Office, ROOM};
+use crate::model::{has_seat, report, room_of, set, Mode, Office, CAPACITY, ROOMS};
 use crate::random::Random;
 
 // A report that leaves a net view equal to what it was.
 pub fn is_repeat(net: u64, record: &[u8]) -> bool {
-    (net | set(record, 2)) & !set(record, 10) == net
+    (net | set(record, 3)) & !set(record, 11) == net
 }
 
-// A repeat for an office with this net view. The last report again is one unless it was refused; before the first
-// there is none.
-pub fn repeat(random: &mut Random, net: u64, last: &[u8]) -> Vec<u8> {
+// A repeat for an office with this net view in a room. The last report again is one unless it was refused; before the
+// first there is none.
+pub fn repeat(random: &mut Random, room: u8, net: u64, last: &[u8]) -> Vec<u8> {
     let (some, more) = (random.next(), random.next());
     match random.below(6) {
         0 | 1 if !last.is_empty() => last.to_vec(),
-        2 => report(some, (some | more) & !net),
-        3 => report(0, some & more & !net),
-        4 => report(some & net, 0),
-        _ => report(0, 0),
+        2 => report(room, some, (some | more) & !net),
+        3 => report(room, 0, some & more & !net),
+        4 => report(room, some & net, 0),
+        _ => report(room, 0, 0),
     }
 }
 
@@ -34,8 +34,8 @@ pub const KINDS: [&str; 7] = [
 // nothing happens in any case.
 #[derive(Clone, Default)]
 pub struct Reports {
-    // the last that was no repeat
-    pub last: Vec<u8>,
+    // the last that was no repeat, of each room
+    pub last: [Vec<u8>; ROOMS],
     pub repeats: u64,
     // repeats that would be refused 13 if they were heard
     pub at_ceiling: u64,
@@ -45,18 +45,18 @@ pub struct Reports {
 }
 
 impl Reports {
-    // A report that passed checks 2 to 5, the office as it found it, and whether it was accepted with 0 bytes and
-    // the state as it was.
+    // A report that passed checks 2 to 5 and 20, the office in its room as it found it, and whether it was accepted
+    // with 0 bytes and the state as it was.
     pub fn count(&mut self, office: &Office, record: &[u8], nothing: bool) {
-        let (joining, leaving) = (set(record, 2), set(record, 10));
+        let (joining, leaving, last) = (set(record, 3), set(record, 11), &mut self.last[room_of(record) as usize]);
         let both = joining & leaving != 0;
         if !is_repeat(office.net, record) {
             self.kinds[6] += both as u64;
-            self.last = record.to_vec();
+            *last = record.to_vec();
         } else if !nothing {
             self.heard += 1;
         } else if has_seat(office.net, office.own) {
-            let (again, agreed) = (record == self.last, office.mode == Mode::None);
+            let (again, agreed) = (record == &last[..], office.mode == Mode::None);
             let (nobody_joins, nobody_leaves) = (joining == 0, leaving == 0);
             let kinds = [
                 again,
@@ -87,5 +87,5 @@ impl Reports {
 // A report that is heard and comes to the same net view, from the empty one, is refused 13.
 fn refuses_if_heard(office: &Office) -> bool {
     let mut other = Office { net: 0, ..*office };
-    other.step(&report(office.net, 0), ROOM, &mut Vec::new()) == 13
+    other.step(&report(0, office.net, 0), CAPACITY, &mut Vec::new()) == 13
 }

@@ -1,9 +1,9 @@
 // What the calls of change request 7 are tried with: files of high marks, their damage, and records that are to leave.
 use crate::inputs::some;
 use crate::marks::{allowed, Kind, Mark, BYTES, MARGIN, MOST};
-use crate::model::L;
+use crate::model::{L, ROOMS};
 use crate::random::Random;
-use crate::rows;
+use crate::rows::{self, place};
 
 // Files
 
@@ -106,26 +106,29 @@ pub fn damage(random: &mut Random, file: &mut Vec<u8>) {
     }
 }
 
-// Rows over which a state is made: single words over and over, each word another, a state in use.
-pub fn row_before(kind: u64, words: usize) -> Vec<u32> {
+// Words over which a table is made: single words over and over, each word another, a table in use.
+pub fn table_before(kind: u64, words: usize) -> Vec<u32> {
     match kind % 5 {
         0 => vec![0x5a3c_6918; words],
         1 => vec![u32::MAX; words],
         2 => vec![0; words],
         3 => (0..words as u32).map(|k| k.wrapping_mul(0x9e37_79b9) ^ 0x1234_5678).collect(),
         _ => {
-            let mut row = rows::fresh(9);
-            row[rows::NET..rows::VIEW_MEMBERS + 2].fill(0x0f0f_0f0f);
-            row[rows::START..].fill(77);
-            row.resize(words, 1);
-            row
+            let mut table = rows::fresh_table(9);
+            for room in 0..ROOMS {
+                let row = &mut table[place(room)];
+                row[rows::NET..rows::VIEW_MEMBERS + 2].fill(0x0f0f_0f0f);
+                row[rows::START..].fill(77 + room as u32);
+            }
+            table.resize(words, 1);
+            table
         }
     }
 }
 
 // Records
 
-// A record with these numbers; what is no number is filled.
+// A record with these numbers; what is no number, the room too, is filled.
 pub fn record(kind: &Kind, numbers: &[u32], mut fill: impl FnMut() -> u8) -> Vec<u8> {
     let mut bytes: Vec<u8> = (0..kind.length).map(|_| fill()).collect();
     bytes[..2].copy_from_slice(&kind.mark);

@@ -1,15 +1,16 @@
 // What was met by the calls of change request 7, by the model.
 use crate::marks::{holds, kind_of, leave, Fault, File, Found, Hold, Leave, Mark};
 use crate::marks::{BYTES, FAULTS, HM, HOLDS, KINDS, LONGEST, MARGIN, MOST};
-use crate::model::L;
-use crate::rows::WORDS;
+use crate::model::{L, PROPOSAL, ROOMS};
+use crate::rows::TABLE;
 use crate::tally::Tally;
 
-pub const ROWS: usize = 431;
+// Tables of fewer words than this are counted by their length.
+pub const LENGTHS: usize = 3301;
 
 // What applies to a restart: 1, 18 and 2 as the bits of the place.
 const RESTARTS: [&str; 8] = [
-    "a state restarted",
+    "a table restarted",
     "1 alone",
     "18 alone",
     "1 where 18 applies too",
@@ -64,7 +65,7 @@ pub struct Reached {
     restarts: [u64; 8],
     // room_last_mark: 0 and 18
     lasts: [u64; 2],
-    // the only fault, of a file handed with a good office and a row of a state
+    // the only fault, of a file handed with a good office and a table's words
     alone: [u64; FAULTS.len()],
     // by the record's place
     places: [[u64; FAULTS.len()]; MOST + 1],
@@ -82,8 +83,8 @@ pub struct Reached {
     steps: [u64; STEPS.len()],
     // by office: restarted above 0, or refused by 1
     offices: [u64; 256],
-    // by the row's length: no refusal before 2, 18, 1
-    rows: [[u64; 3]; ROWS],
+    // by the number of words: no refusal before 2, 18, 1
+    lengths: Vec<[u64; 3]>,
     answers: [u64; 9],
     // the only reason to hold a record, and two of different numbers
     held: [u64; HOLDS.len()],
@@ -93,6 +94,8 @@ pub struct Reached {
     // no mark due, though four bytes that are no number are above the last mark; by kind
     others: [u64; KINDS.len()],
     behind: [[u64; BEHIND.len()]; KINDS.len()],
+    // by kind and the byte of the room: a mark due, none due
+    rooms: [[[u64; 2]; 256]; KINDS.len()],
     // by the length that is lent for a mark: refused by 3 alone, a mark written, no mark due
     capacities: [[u64; 3]; 14],
     // 4 for a report, a sync record, a high mark
@@ -117,7 +120,7 @@ impl Reached {
             tails: [[0; 3]; BYTES],
             steps: [0; STEPS.len()],
             offices: [0; 256],
-            rows: [[0; 3]; ROWS],
+            lengths: vec![[0; 3]; LENGTHS],
             answers: [0; 9],
             held: [0; HOLDS.len()],
             orders: [[0; HOLDS.len()]; HOLDS.len()],
@@ -125,6 +128,7 @@ impl Reached {
             due: [0; MARKS_DUE.len()],
             others: [0; KINDS.len()],
             behind: [[0; BEHIND.len()]; KINDS.len()],
+            rooms: [[[0; 2]; 256]; KINDS.len()],
             capacities: [[0; 3]; 14],
             foreign: [0; 3],
         }
@@ -138,12 +142,12 @@ impl Reached {
         let file = File::read(bytes);
         let (last, found) = (file.last_mark(), file.faults());
         self.agree &= last.is_some() == found.is_empty();
-        let applying = [office > 15, last.is_none(), words != WORDS];
+        let applying = [office > 15, last.is_none(), words != TABLE];
         let [one, eighteen, two] = applying.map(usize::from);
         self.restarts[one | eighteen << 1 | two << 2] += 1;
         self.lasts[last.is_none() as usize] += 1;
-        if words < ROWS {
-            self.rows[words][if one == 1 { 2 } else { eighteen }] += 1;
+        if let Some(n) = self.lengths.get_mut(words) {
+            n[if one == 1 { 2 } else { eighteen }] += 1;
         }
         match applying {
             [true, false, false] => self.offices[office as usize] += 1,
@@ -275,7 +279,8 @@ impl Reached {
         for (n, holds) in self.due.iter_mut().zip(said) {
             *n += holds as u64;
         }
-        let sets = if KINDS[kind].length == 84 { 2..12 } else { 6..14 };
+        self.rooms[kind][record[2] as usize][!due as usize] += 1;
+        let sets = if KINDS[kind].length == PROPOSAL { 2..13 } else { 7..15 };
         let above = |four: &[u8]| u32::from_be_bytes(four.try_into().unwrap()) > last;
         self.others[kind] += (!due && record[sets].windows(4).all(above)) as u64;
         let next = kind_of(more).map(|next| KINDS[next].read(more));
@@ -345,10 +350,10 @@ impl Tally<Reached> {
         let (good, bad) = (of_offices(&self.reached.offices[..16]), of_offices(&self.reached.offices[16..]));
         self.often("restarts above 0, of the office with fewest", good, 100);
         self.often("1 alone, of the office with fewest", bad, 5);
-        let rows = ["rows with no refusal before 2", "rows with 18", "rows with 1"];
-        for (at, what) in rows.into_iter().enumerate() {
-            let least = self.reached.rows.iter().map(|n| n[at]).min().unwrap();
-            self.often(&format!("{what}, of the length with fewest"), least, 5);
+        let said = ["words with no refusal before 2", "words with 18", "words with 1"];
+        for (at, what) in said.into_iter().enumerate() {
+            let least = self.reached.lengths.iter().map(|n| n[at]).min().unwrap();
+            self.often(&format!("{what}, of their number with fewest"), least, 5);
         }
     }
 
@@ -433,5 +438,13 @@ impl Tally<Reached> {
         }
         let due = self.reached.due;
         self.met_all(&MARKS_DUE, &due, 1000);
+        for (kind, bytes) in KINDS.iter().zip(self.reached.rooms) {
+            for (at, what) in ["a mark due", "no mark due"].into_iter().enumerate() {
+                let least = |bytes: &[[u64; 2]]| bytes.iter().map(|n| n[at]).min().unwrap();
+                let (room, above) = (least(&bytes[..ROOMS]), least(&bytes[ROOMS..]));
+                self.often(&format!("{}: {what}, of the room with fewest", kind.name), room, 50);
+                self.often(&format!("{}: {what}, of the byte above 7 with fewest", kind.name), above, 20);
+            }
+        }
     }
 }

@@ -12,6 +12,7 @@ pub fn all(t: &mut Tally) {
     pairs_of_numbers(t);
     other_bytes(t);
     every_byte(t);
+    every_room(t);
     lengths(t);
     every_mark(t);
     at_random(t);
@@ -115,7 +116,7 @@ fn pairs_of_numbers(t: &mut Tally) {
     });
 }
 
-// Sender, kind and sets of seats are no numbers.
+// Room, sender, kind and sets of seats are no numbers.
 fn other_bytes(t: &mut Tally) {
     t.case("records with numbers up to the last mark and any other bytes", |t| {
         let mut r = Random(13);
@@ -145,6 +146,35 @@ fn every_byte(t: &mut Tally) {
     });
 }
 
+// Whatever byte the room is, the answer is the same.
+fn every_room(t: &mut Tally) {
+    let mut right = true;
+    t.case("every byte of a room, with each number of a record in turn", |t| {
+        let mut r = Random(19);
+        // a notice has one number alone
+        let each = [each_number(), vec![(&KINDS[0], 0); 6]].concat();
+        for case in 0.. {
+            let mut rest = case;
+            let (kind, at) = choice(&mut rest, &each);
+            let last = choice(&mut rest, &[0, 6, 0x0203_0405, L - 1]);
+            let number = choice(&mut rest, &[|last| last, |last| last + 1, |_: u32| L + 1])(last);
+            if rest != 0 {
+                return;
+            }
+            let (mut numbers, out) = ([last; 18], r.bytes(BYTES));
+            numbers[at] = number;
+            let mut bytes = record(kind, &numbers, || r.next() as u8);
+            let mut answers = Vec::new();
+            for room in 0..=255 {
+                bytes[2] = room;
+                answers.push(t.before(last, &bytes, &out));
+            }
+            right &= answers.iter().all(|answer| *answer == answers[0]);
+        }
+    });
+    t.verdicts.check("records that differ in their room alone are answered alike", right);
+}
+
 fn lengths(t: &mut Tally) {
     t.case("records of every length under each mark, with every length lent for a mark", |t| {
         let mut r = Random(15);
@@ -158,7 +188,7 @@ fn lengths(t: &mut Tally) {
             if rest != 0 {
                 return;
             }
-            let mut bytes = [&mark[..], &number.to_be_bytes().repeat(25)].concat();
+            let mut bytes = [&mark[..], &[case as u8], &number.to_be_bytes().repeat(25)].concat();
             bytes.truncate(length);
             let out = r.bytes(capacity);
             t.before(last, &bytes, &out);
@@ -171,8 +201,9 @@ fn every_mark(t: &mut Tally) {
         let mut r = Random(16);
         for mark in 0..=u16::MAX {
             let (number, last) = (some(&mut r, &[1, L, L + 1]), some(&mut r, &[0, 0, 0, L, L + 1]));
-            let length = some(&mut r, &[84, 84, 84, 10, 11, 14, 18, 78, 2]);
-            let mut bytes = [&mark.to_be_bytes()[..], &number.to_be_bytes().repeat(21)].concat();
+            let length = some(&mut r, &[85, 85, 85, 10, 11, 15, 19, 79, 84, 78, 3, 2]);
+            let room = r.next() as u8;
+            let mut bytes = [&mark.to_be_bytes()[..], &[room], &number.to_be_bytes().repeat(21)].concat();
             bytes.truncate(length);
             let out = r.bytes(BYTES);
             t.before(last, &bytes, &out);

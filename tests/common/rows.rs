@@ -1,7 +1,17 @@
-// A state as a row of words, by docs/LAYOUT.md, and the step on a row by the model.
-use crate::model::{Mode, Office, Proposal, View, FAST, SLOW};
+// The state of a room as a row of words and a table of eight of them, by docs/LAYOUT.md, and the step on each by the
+// model:
+//   read, fresh, put, put_stored   a row; none is read where the words are no row
+//   passes                         check 2 of one row
+//   step                           one event on a row alone: 2 is of this row
+//   fresh_table, place             a table, and the words of a room in it
+//   passes_table                   check 2 of a table: of its length and of all eight rows
+//   step_table                     one event on a table: the row of the record's room alone changes
+use crate::model::{form_refusal, room_of, Mode, Office, Proposal, View, FAST, L, PROPOSAL, ROOMS, SLOW};
+use std::ops::Range;
 
+// Of one room, and of a table.
 pub const WORDS: usize = 410;
+pub const TABLE: usize = 3280;
 
 pub const OWN: usize = 0;
 pub const MODE: usize = 1;
@@ -116,18 +126,18 @@ pub fn put(row: &mut [u32], office: &Office) {
 
 // The number of document 01, with the row as it then is and what is written in `out`. A slot that the event neither
 // fills nor empties keeps its words.
-pub fn step(row: &mut [u32], record: &[u8], room: usize, out: &mut Vec<u8>) -> u8 {
+pub fn step(row: &mut [u32], record: &[u8], capacity: usize, out: &mut Vec<u8>) -> u8 {
     out.clear();
     let Some(before) = read(row) else { return 2 };
     let mut after = before;
-    let refusal = after.step(record, room, out);
+    let refusal = after.step(record, capacity, out);
     if refusal != 0 {
         return refusal;
     }
     put(row, &after);
     for o in 0..16 {
         // a proposal of its own raises the own number
-        let came = record.len() == 84 && record[2] as usize == o;
+        let came = record.len() == PROPOSAL && record[3] as usize == o;
         let made = o == after.own && after.number != before.number;
         let emptied = before.stored[o].is_some() && after.stored[o].is_none();
         if came || made || emptied {
@@ -135,4 +145,39 @@ pub fn step(row: &mut [u32], record: &[u8], room: usize, out: &mut Vec<u8>) -> u
         }
     }
     0
+}
+
+// The numbers of a proposal count where one is stored.
+pub fn passes(row: &[u32]) -> bool {
+    let low = |numbers: &[u32]| numbers.iter().all(|&n| n <= L);
+    row.len() == WORDS
+        && row[OWN] <= 15
+        && row[MODE] <= 2
+        && row[PRESENT] < 65_536
+        && low(&row[START..slot_numbers(0)])
+        && (0..16).all(|o| !present(row, o) || low(&row[slot_numbers(o)..][..18]))
+}
+
+// Room 0 first, and nothing between.
+pub fn place(room: usize) -> Range<usize> {
+    WORDS * room..WORDS * (room + 1)
+}
+
+pub fn fresh_table(own: usize) -> Vec<u32> {
+    fresh(own).repeat(ROOMS)
+}
+
+pub fn passes_table(table: &[u32]) -> bool {
+    table.len() == TABLE && (0..ROOMS).all(|room| passes(&table[place(room)]))
+}
+
+pub fn step_table(table: &mut [u32], record: &[u8], capacity: usize, out: &mut Vec<u8>) -> u8 {
+    out.clear();
+    if !passes_table(table) {
+        return 2;
+    }
+    match form_refusal(record, capacity) {
+        0 => step(&mut table[place(room_of(record) as usize)], record, capacity, out),
+        refusal => refusal,
+    }
 }

@@ -1,17 +1,20 @@
-// The seat of change request 3, written from documents 01 and 02, and its row of words, by include/room.h.
-use crate::model::{has_seat, set, View, L};
+// The desk of change requests 3 and 9, written from documents 01 and 02: a seat, and for each of eight rooms a machine
+// that takes the start notices and views of that room. Its words are those of include/room.h.
+use crate::model::{has_seat, number, set, View, L, NOTICE, ROOMS, VIEW};
+use std::ops::Range;
 
-pub const WORDS: usize = 4;
+pub const WORDS: usize = 25;
 
-pub type Row = [u32; WORDS];
+pub type Desk = [u32; WORDS];
 
 // The reasons to refuse, in checking order.
 #[derive(Clone, Copy, Debug, PartialEq)]
 pub enum Reason {
-    NotFourWords,
+    NotADesk,
     SeatAbove63,
     Mark,
     Length,
+    RoomAbove7,
     LastStartAboveL,
     LastViewAboveL,
     NumberAboveL,
@@ -28,11 +31,12 @@ pub enum Reason {
 use Reason::*;
 
 // The same with their numbers; some share one.
-pub const REASONS: [(Reason, u8); 15] = [
-    (NotFourWords, 6),
+pub const REASONS: [(Reason, u8); 16] = [
+    (NotADesk, 6),
     (SeatAbove63, 6),
     (Mark, 4),
     (Length, 5),
+    (RoomAbove7, 20),
     (LastStartAboveL, 8),
     (LastViewAboveL, 8),
     (NumberAboveL, 8),
@@ -52,146 +56,156 @@ impl Reason {
     }
 }
 
+fn applying(checks: &[(Reason, bool)]) -> Vec<Reason> {
+    checks.iter().filter(|(_, applies)| *applies).map(|&(reason, _)| reason).collect()
+}
+
 // Records
 
 // The number of a notice or view.
-pub fn number(record: &[u8]) -> u32 {
-    u32::from_be_bytes(record[2..6].try_into().unwrap())
+pub fn number_of(record: &[u8]) -> u32 {
+    number(record, 3)
 }
 
 pub fn members(record: &[u8]) -> u64 {
-    set(record, 6)
-}
-
-pub fn notice(number: u32, members: u64) -> Vec<u8> {
-    [&b"SC"[..], &number.to_be_bytes(), &members.to_be_bytes()].concat()
+    set(record, 7)
 }
 
 pub fn view(record: &[u8]) -> View {
-    let starts = std::array::from_fn(|o| u32::from_be_bytes(record[14 + 4 * o..18 + 4 * o].try_into().unwrap()));
-    View { number: number(record), members: members(record), starts }
+    let starts = std::array::from_fn(|o| number(record, 15 + 4 * o));
+    View { number: number_of(record), members: members(record), starts }
 }
 
 // Checks 4 and 5, with the marks of a notice and a view.
 fn layout(record: &[u8]) -> Option<Reason> {
     let length = match record {
-        [0x53, 0x43, ..] => 14,
-        [0x56, 0x57, ..] => 78,
+        [0x53, 0x43, ..] => NOTICE,
+        [0x56, 0x57, ..] => VIEW,
         _ => return Some(Mark),
     };
     (record.len() != length).then_some(Length)
 }
 
-// State
+// What is wrong with the form of a record. The byte of a room stands behind any mark.
+fn of_form(record: &[u8]) -> Vec<Reason> {
+    let (layout, room) = (layout(record), record.get(2));
+    applying(&[
+        (Mark, layout == Some(Mark)),
+        (Length, layout == Some(Length)),
+        (RoomAbove7, room.is_some_and(|&room| room as usize >= ROOMS)),
+    ])
+}
 
-#[derive(Clone, Copy, PartialEq)]
-pub struct Seat {
-    pub seat: u32,
+// A machine
+
+// The last start number, the last view number, and whether a change is open.
+#[derive(Clone, Copy, Debug, PartialEq)]
+pub struct Machine {
     pub start: u32,
     pub view: u32,
     pub open: bool,
 }
 
-impl Seat {
-    // A seat above 63 gets 6, and the fresh seat 0 comes with it.
-    pub fn fresh(seat: u8) -> (u8, Seat) {
-        let (refusal, made) = if seat > 63 { (6, 0) } else { (0, seat) };
-        (refusal, Seat { seat: made as u32, start: 0, view: 0, open: false })
+// The words of a room's machine.
+pub fn place(room: usize) -> Range<usize> {
+    1 + 3 * room..4 + 3 * room
+}
+
+impl Machine {
+    pub fn of(desk: &[u32], room: usize) -> Machine {
+        let words = &desk[place(room)];
+        Machine { start: words[0], view: words[1], open: words[2] != 0 }
     }
 
-    // One record: the number of the request. A refusal leaves the seat as it was.
-    pub fn hear(&mut self, record: &[u8]) -> u8 {
-        if let Some(reason) = self.reasons(record).first() {
-            return reason.number();
-        }
-        if record.len() == 14 {
-            self.start = number(record);
+    fn words(&self) -> [u32; 3] {
+        [self.start, self.view, self.open as u32]
+    }
+
+    // A record that nothing refuses.
+    fn take(&mut self, record: &[u8]) {
+        if record.len() == NOTICE {
+            self.start = number_of(record);
             self.open = true;
         } else {
-            self.view = number(record);
+            self.view = number_of(record);
             self.open = false;
         }
-        0
     }
 
-    // Every reason that applies, in checking order. Where 4 or 5 applies the record has no numbers and no members.
-    pub fn reasons(&self, record: &[u8]) -> Vec<Reason> {
-        let layout = layout(record);
-        let mut checks = vec![
-            (SeatAbove63, self.seat > 63),
-            (Mark, layout == Some(Mark)),
-            (Length, layout == Some(Length)),
-            (LastStartAboveL, self.start > L),
-            (LastViewAboveL, self.view > L),
-        ];
-        if layout.is_none() && record.len() == 14 {
-            checks.extend(self.checks_on_notice(number(record), members(record)));
-        } else if layout.is_none() {
-            checks.extend(self.checks_on_view(&view(record)));
-        }
-        checks.into_iter().filter(|(_, applies)| *applies).map(|(reason, _)| reason).collect()
+    // Its own reasons and the record's, in checking order. Where 4 or 5 applies the record has no numbers and no
+    // members.
+    pub fn reasons(&self, seat: u32, record: &[u8]) -> Vec<Reason> {
+        let mut all = applying(&[(LastStartAboveL, self.start > L), (LastViewAboveL, self.view > L)]);
+        all.extend(match layout(record) {
+            Some(_) => Vec::new(),
+            None if record.len() == NOTICE => self.of_notice(seat, number_of(record), members(record)),
+            None => self.of_view(seat, &view(record)),
+        });
+        all
     }
 
-    fn checks_on_notice(&self, start: u32, members: u64) -> [(Reason, bool); 4] {
-        [
+    fn of_notice(&self, seat: u32, start: u32, members: u64) -> Vec<Reason> {
+        applying(&[
             (NumberAboveL, start > L),
-            (NotAMember, !self.is_in(members)),
+            (NotAMember, !is_in(seat, members)),
             (NotAboveLastStart, start <= self.start),
             (BelowLastView, start < self.view),
-        ]
+        ])
     }
 
-    fn checks_on_view(&self, v: &View) -> [(Reason, bool); 7] {
-        [
+    fn of_view(&self, seat: u32, v: &View) -> Vec<Reason> {
+        applying(&[
             (NumberAboveL, v.number > L),
             (StartAboveL, v.starts.iter().any(|&start| start > L)),
-            (NotAMember, !self.is_in(v.members)),
+            (NotAMember, !is_in(seat, v.members)),
             (StartOutside, (0..16).any(|o| !has_seat(v.members, o) && v.starts[o] != 0)),
             (NotOpen, !self.open),
-            (OtherStart, v.starts.get(self.seat as usize / 4) != Some(&self.start)),
+            (OtherStart, v.starts.get(seat as usize / 4) != Some(&self.start)),
             (ViewNotAbove, v.number <= self.start),
-        ]
-    }
-
-    fn is_in(&self, members: u64) -> bool {
-        self.seat <= 63 && members >> self.seat & 1 == 1
-    }
-
-    fn words(&self) -> Row {
-        [self.seat, self.start, self.view, self.open as u32]
+        ])
     }
 }
 
-// The row
-
-// The seat in some words; none where they are not four.
-fn read(row: &[u32]) -> Option<Seat> {
-    let &[seat, start, view, open] = row else { return None };
-    Some(Seat { seat, start, view, open: open != 0 })
+fn is_in(seat: u32, members: u64) -> bool {
+    seat <= 63 && members >> seat & 1 == 1
 }
 
-pub fn fresh(seat: u8, row: &mut [u32]) -> u8 {
-    if row.len() != WORDS {
+// The desk
+
+// A seat above 63 gets 6, and the fresh desk of seat 0 comes with it. Words of another length get 6 and stay.
+pub fn fresh(seat: u8, words: &mut [u32]) -> u8 {
+    if words.len() != WORDS {
         return 6;
     }
-    let (refusal, made) = Seat::fresh(seat);
-    row.copy_from_slice(&made.words());
-    refusal
+    words.fill(0);
+    if seat > 63 {
+        return 6;
+    }
+    words[0] = seat as u32;
+    0
 }
 
-// The number of the request, with the row as it then is. A refusal leaves its words.
-pub fn hear(row: &mut [u32], record: &[u8]) -> u8 {
-    let Some(mut seat) = read(row) else { return 6 };
-    let refusal = seat.hear(record);
-    if refusal == 0 {
-        row.copy_from_slice(&seat.words());
+// Every reason that applies, in checking order. Above 7 a room has no machine; the one that the low bits pick is asked
+// all the same, so that it is known what else would refuse the record.
+pub fn reasons(words: &[u32], record: &[u8]) -> Vec<Reason> {
+    if words.len() != WORDS {
+        return [NotADesk].into_iter().chain(of_form(record)).collect();
     }
-    refusal
+    let seat = applying(&[(SeatAbove63, words[0] > 63)]);
+    let machine = record.get(2).map(|&room| Machine::of(words, room as usize % ROOMS));
+    let of_machine = machine.map_or(Vec::new(), |machine| machine.reasons(words[0], record));
+    [seat, of_form(record), of_machine].concat()
 }
 
-pub fn reasons(row: &[u32], record: &[u8]) -> Vec<Reason> {
-    match read(row) {
-        Some(seat) => seat.reasons(record),
-        None => [NotFourWords].into_iter().chain(layout(record)).collect(),
+// The number of the requests, with the words as they then are: a refusal leaves all, a record that is accepted those
+// of the other rooms.
+pub fn hear(words: &mut [u32], record: &[u8]) -> u8 {
+    if let Some(reason) = reasons(words, record).first() {
+        return reason.number();
     }
+    let room = record[2] as usize;
+    let mut machine = Machine::of(words, room);
+    machine.take(record);
+    words[place(room)].copy_from_slice(&machine.words());
+    0
 }

@@ -1,6 +1,6 @@
 // Change request 8, proposals that claim to have used themselves, or nearly do: which kinds of them an office was
 // handed, and what offices that follow the rules sent.
-use crate::model::{has_seat, written_length, Office, Proposal, FAST, L, ROOM, SLOW};
+use crate::model::{has_seat, written_length, Office, Proposal, CAPACITY, FAST, L, PROPOSAL, SLOW};
 
 // The reasons to refuse a proposal, in checking order.
 const ORDER: [u8; 9] = [6, 7, 8, 9, 10, 19, 11, 12, 13];
@@ -34,7 +34,7 @@ fn reasons(o: &Office, p: &Proposal, answer: u8) -> Vec<u8> {
 fn too_high(o: &Office, p: &Proposal) -> bool {
     let mut other = *p;
     other.used[p.sender as usize] = 0;
-    { *o }.step(&other.bytes(), ROOM, &mut Vec::new()) == 13
+    { *o }.step(&other.bytes(0), CAPACITY, &mut Vec::new()) == 13
 }
 
 pub const KINDS: [&str; 24] = [
@@ -85,7 +85,7 @@ impl Default for SelfUses {
 }
 
 impl SelfUses {
-    // A proposal that passed checks 2 to 5, the office as it found it, and its answer.
+    // A proposal that passed checks 2 to 5 and 20, the office in its room as it found it, and its answer.
     pub fn count(&mut self, o: &Office, record: &[u8], refusal: u8) {
         let p = Proposal::read(record);
         let reasons = reasons(o, &p, refusal);
@@ -172,7 +172,7 @@ impl Sent {
         let mut rest = written;
         while !rest.is_empty() {
             let length = written_length(rest);
-            if length == 84 {
+            if length == PROPOSAL {
                 let p = Proposal::read(rest);
                 let used = p.used[p.sender as usize];
                 self.proposals += 1;

@@ -1,16 +1,17 @@
 // What check 19 is tried with: proposals that pass, with none, one or two faults, and with used numbers for the sender
 // about the proposal's own.
 use crate::inputs::some;
-use crate::model::{has_seat, offices, Proposal, FAST, L, ROOM, SLOW};
+use crate::model::{has_seat, offices, Proposal, CAPACITY, FAST, L, SLOW};
 use crate::net_view;
 use crate::random::Random;
 use crate::rows::{ACCEPTED, NUMBER, OWN, START};
 
-// A proposal for a row, with an output of a length.
+// A proposal for the row of a room, with an output of a length.
 pub struct Asked {
+    pub room: u8,
     pub row: Vec<u32>,
     pub p: Proposal,
-    pub room: usize,
+    pub capacity: usize,
     own: usize,
     sender: usize,
     // two others: one with a seat in the net view if there is any, one without a seat in the members
@@ -21,7 +22,7 @@ pub struct Asked {
 impl Asked {
     // One that passes all before 13, with any used number for the sender below the proposal's own. Most are of an
     // office of the net view, if there is another than this one.
-    pub fn sound(random: &mut Random, row: &[u32]) -> Asked {
+    pub fn sound(random: &mut Random, room: u8, row: &[u32]) -> Asked {
         let (own, net, number) = (row[OWN] as usize, net_view(row), row[NUMBER]);
         let mut senders: Vec<usize> = offices(net).filter(|&k| k != own).collect();
         if senders.is_empty() || random.below(4) == 0 {
@@ -45,7 +46,7 @@ impl Asked {
         row[ACCEPTED + sender] = random.below(n as usize) as u32;
         let start = some(random, &[1, 2, row[START].max(1), any]);
         let p = Proposal { sender: sender as u8, kind: some(random, &[FAST, SLOW]), members, start, number: n, used };
-        Asked { row, p, room: ROOM, own, sender, third, absent }
+        Asked { room, row, p, capacity: CAPACITY, own, sender, third, absent }
     }
 
     // With this used number for the sender, where that is an office.
@@ -64,7 +65,7 @@ pub const FAULTS: [Fault; 21] = [
     |_| (),
     // 2 and 3
     |a| a.row[NUMBER] = L + 1,
-    |a| a.room = ROOM - 1,
+    |a| a.capacity = CAPACITY - 1,
     // 6 and 7
     |a| a.p.sender = a.own as u8,
     |a| a.p.sender = 16,

@@ -1,7 +1,8 @@
-// Change request 4, written from documents 01 and 02: the sync record, what a desk makes of its words, and who came
-// along by a sheet of them.
-use crate::model::{has_seat, number, View, L};
-use crate::seat;
+// Change request 4 with the rooms of change request 9, written from documents 01 and 02: the sync record, what a desk
+// makes of its words in a room, and who came along by a sheet of such records. A sheet is one room's; nothing on it
+// says which.
+use crate::model::{has_seat, number, View, L, ROOMS, VIEW};
+use crate::seat::{self, Machine};
 
 pub const BYTES: usize = 11;
 pub const MOST: usize = 512;
@@ -41,10 +42,18 @@ pub fn bytes(records: &[Sync]) -> Vec<u8> {
     records.iter().flat_map(Sync::bytes).collect()
 }
 
-// The record of a desk with these words, by include/room.h: none where they are no seat or the room is short.
-pub fn made(words: &[u32], room: usize) -> Option<Sync> {
-    let &[seat @ 0..=63, start, previous, _] = words else { return None };
-    (room >= BYTES).then_some(Sync { seat: seat as u8, start, previous })
+// What bars a sync record, by include/room.h: not a desk's words, its seat, the room, the output.
+pub fn bars(words: &[u32], room: u8, capacity: usize) -> [bool; 4] {
+    [words.len() != seat::WORDS, words.first() > Some(&63), room as usize >= ROOMS, capacity < BYTES]
+}
+
+// The record of a desk with these words in a room.
+pub fn made(words: &[u32], room: u8, capacity: usize) -> Option<Sync> {
+    if bars(words, room, capacity).contains(&true) {
+        return None;
+    }
+    let Machine { start, view, .. } = Machine::of(words, room as usize);
+    Some(Sync { seat: words[0] as u8, start, previous: view })
 }
 
 // Refusals
@@ -54,6 +63,7 @@ pub fn made(words: &[u32], room: usize) -> Option<Sync> {
 pub enum Reason {
     ViewMark,
     ViewLength,
+    ViewRoomAbove7,
     ViewNumberAboveL,
     ViewStartAboveL,
     OwnNumberAboveL,
@@ -69,9 +79,10 @@ pub enum Reason {
 use Reason::*;
 
 // The same with their numbers; some share one.
-pub const REASONS: [(Reason, u8); 12] = [
+pub const REASONS: [(Reason, u8); 13] = [
     (ViewMark, 4),
     (ViewLength, 5),
+    (ViewRoomAbove7, 20),
     (ViewNumberAboveL, 8),
     (ViewStartAboveL, 8),
     (OwnNumberAboveL, 8),
@@ -101,14 +112,16 @@ fn applying(checks: &[(Reason, bool)]) -> Vec<Reason> {
     checks.iter().filter(|(_, applies)| *applies).map(|&(reason, _)| reason).collect()
 }
 
-// Where 4 or 5 applies the view has no numbers and no members; one's own number is there all the same.
+// Where 4 or 5 applies the view has no numbers and no members; one's own number is there all the same, and the byte of
+// a room may be.
 fn of_view(view: &[u8], own: u32) -> Vec<Reason> {
     let marked = view.starts_with(&[0x56, 0x57]);
-    let read = (marked && view.len() == 78).then(|| seat::view(view));
+    let read = (marked && view.len() == VIEW).then(|| seat::view(view));
     let of_read = |applies: fn(&View) -> bool| read.as_ref().is_some_and(applies);
     applying(&[
         (ViewMark, !marked),
         (ViewLength, marked && read.is_none()),
+        (ViewRoomAbove7, view.get(2).is_some_and(|&room| room as usize >= ROOMS)),
         (ViewNumberAboveL, of_read(|v| v.number > L)),
         (ViewStartAboveL, of_read(|v| v.starts.iter().any(|&start| start > L))),
         (OwnNumberAboveL, own > L),

@@ -1,6 +1,6 @@
 // What the question who came along is tried with: views, sheets for them, and damage to both.
 use crate::inputs::some;
-use crate::model::{has_seat, number, View, L};
+use crate::model::{has_seat, number, View, L, ROOMS, VIEW};
 use crate::random::Random;
 use crate::sheet::{is_in, Sync, BYTES};
 
@@ -67,6 +67,17 @@ pub fn some_members(random: &mut Random) -> u64 {
 pub fn some_view(random: &mut Random, members: u64) -> View {
     let starts = std::array::from_fn(|o| if has_seat(members, o) { some_number(random) } else { 0 });
     View { number: some_number(random), members, starts }
+}
+
+// Any room.
+pub fn some_room(random: &mut Random) -> u8 {
+    random.below(ROOMS) as u8
+}
+
+// One above them: the next, one that is a room but for its high bits, or any.
+pub fn room_above(random: &mut Random) -> u8 {
+    let (room, any) = (some_room(random), 8 + random.below(248) as u8);
+    some(random, &[8, 8 | room, 128 | room, 255, any, any])
 }
 
 pub fn seats(members: u64) -> impl Iterator<Item = usize> {
@@ -186,13 +197,14 @@ fn damage_sheet(random: &mut Random, sheet: &mut Vec<u8>) {
 
 fn damage_view(random: &mut Random, view: &mut Vec<u8>) {
     let edge = any_edge(random);
-    match random.below(6) {
+    match random.below(7) {
         0 if view.len() >= 2 => {
             view[..2].copy_from_slice(some(random, &[b"SC", b"PR", b"NE", b"SY", b"WV", b"VV", b"WW"]))
         }
-        1 if view.len() == 78 => put(view, 2, edge),
-        2 if view.len() == 78 => view[6 + random.below(8)] ^= 1 << random.below(8),
-        3 | 4 if view.len() == 78 => put(view, 14 + 4 * random.below(16), edge),
+        1 if view.len() == VIEW => put(view, 3, edge),
+        2 if view.len() == VIEW => view[7 + random.below(8)] ^= 1 << random.below(8),
+        3 | 4 if view.len() == VIEW => put(view, 15 + 4 * random.below(16), edge),
+        5 if view.len() > 2 => view[2] = room_above(random),
         _ => damage_bytes(random, view),
     }
 }

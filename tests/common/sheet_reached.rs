@@ -1,8 +1,8 @@
 // What was met by the questions who came along, by the model.
-use crate::model::{has_seat, View, L};
+use crate::model::{has_seat, View, L, ROOMS};
 use crate::seat;
 use crate::sheet::{
-    came_along, counting, is_in, reasons, records, Answer, Found, Reason, Sync, BYTES, LONGEST, MOST, REASONS,
+    bars, came_along, counting, is_in, reasons, records, Answer, Found, Reason, Sync, LONGEST, MOST, REASONS,
 };
 use crate::tally::Tally;
 
@@ -26,11 +26,17 @@ const HIGHER_TOO: usize = 3;
 const NO_MEMBER: usize = 9;
 
 pub struct Reached {
-    // sync records made, and not made by one reason alone: the words, the seat, the room
-    made: [u64; 4],
+    // sync records made, and not made by one reason alone: the words, the seat, the room, the output
+    made: [u64; 5],
+    // of each room: made, where no other room of the desk has its numbers; of each byte: not made by it alone
+    made_rooms: [u64; ROOMS],
+    made_above: [u64; 256],
     pub sheets: u64,
     // refused by a number, and 0
-    answers: [u64; 18],
+    answers: [u64; 21],
+    // of each room of a view: refused, a seat missing, a set; of each byte: refused by it alone
+    rooms: [[u64; 3]; ROOMS],
+    above: [u64; 256],
     // the only reason that applies
     alone: [u64; REASONS.len()],
     // the reason that decides, and one of another number that applies too: in the same record or after the view and
@@ -54,16 +60,40 @@ impl Reached {
     pub fn new() -> Reached {
         let (alone, orders) = ([0; REASONS.len()], [[[0; REASONS.len()]; REASONS.len()]; 2]);
         let (places, deciding, seats) = ([[0; 4]; MOST], [[0; 2]; MOST], [[0; OF_SEAT.len()]; 64]);
-        let (made, answers, offices, full, sets) = ([0; 4], [0; 18], [[0; 2]; 16], [0; 3], [0; 4]);
-        Reached { made, sheets: 0, answers, alone, orders, offices, places, deciding, seats, full, sets }
+        Reached {
+            made: [0; 5],
+            made_rooms: [0; ROOMS],
+            made_above: [0; 256],
+            sheets: 0,
+            answers: [0; 21],
+            rooms: [[0; 3]; ROOMS],
+            above: [0; 256],
+            alone,
+            orders,
+            offices: [[0; 2]; 16],
+            places,
+            deciding,
+            seats,
+            full: [0; 3],
+            sets: [0; 4],
+        }
     }
 
-    pub fn count_made(&mut self, words: &[u32], room: usize) {
-        match [words.len() != seat::WORDS, words.first() > Some(&63), room < BYTES] {
-            [false, false, false] => self.made[0] += 1,
-            [true, false, false] => self.made[1] += 1,
-            [false, true, false] => self.made[2] += 1,
-            [false, false, true] => self.made[3] += 1,
+    pub fn count_made(&mut self, words: &[u32], room: u8, capacity: usize) {
+        let bars = bars(words, room, capacity);
+        let all: Vec<usize> = (0..bars.len()).filter(|&at| bars[at]).collect();
+        match all[..] {
+            [] => {
+                self.made[0] += 1;
+                let numbers = |room| &words[seat::place(room)][..2];
+                let own = numbers(room as usize);
+                let alike = (0..ROOMS).filter(|&other| numbers(other).iter().any(|n| own.contains(n)));
+                self.made_rooms[room as usize] += (alike.count() == 1) as u64;
+            }
+            [only] => {
+                self.made[1 + only] += 1;
+                self.made_above[room as usize] += (only == 2) as u64;
+            }
             _ => (),
         }
     }
@@ -76,12 +106,15 @@ impl Reached {
             Answer::Refused(_) => self.count_refusal(&reasons(sheet, view, own), view),
             _ => self.count_answer(&records(sheet), &seat::view(view), own, answer),
         }
-        if sheet.len() == LONGEST {
-            self.full[match answer {
-                Answer::Refused(_) => 0,
-                Answer::Missing(_) => 1,
-                Answer::Came(_) => 2,
-            }] += 1;
+        let kind = match answer {
+            Answer::Refused(_) => 0,
+            Answer::Missing(_) => 1,
+            Answer::Came(_) => 2,
+        };
+        self.full[kind] += (sheet.len() == LONGEST) as u64;
+        // what the view's form refuses is no room's
+        if !matches!(answer, Answer::Refused(5 | 20)) && view.starts_with(b"VW") {
+            self.rooms[view[2] as usize][kind] += 1;
         }
         answer
     }
@@ -95,6 +128,9 @@ impl Reached {
         }
         let [Found { reason, record }] = *found else { return };
         self.alone[reason as usize] += 1;
+        if reason == Reason::ViewRoomAbove7 {
+            self.above[view[2] as usize] += 1;
+        }
         if let Some(at) = record {
             self.places[at][reason as usize - OF_RECORD] += 1;
         }
@@ -189,19 +225,32 @@ fn can_meet(first: Reason, later: Reason) -> bool {
 
 impl Tally<Reached> {
     pub fn met(&mut self) {
-        let made =
-            ["sync records made", "none for the words alone", "none for the seat alone", "none for the room alone"];
-        for (at, what) in made.into_iter().enumerate() {
-            self.often(what, self.reached.made[at], 1000);
+        let bars = ["the words", "the seat", "the room", "the output"].map(|bar| format!("none for {bar} alone"));
+        for (what, n) in ["sync records made".to_string()].iter().chain(&bars).zip(self.reached.made) {
+            self.often(what, n, 1000);
         }
+        self.met_rooms();
         self.met_refusals();
         self.met_places();
         self.met_orders();
         self.met_answers();
     }
 
+    fn met_rooms(&mut self) {
+        let made = *self.reached.made_rooms.iter().min().unwrap();
+        self.often("sync records of numbers that no other room has, of the room with fewest", made, 100);
+        let barred = *self.reached.made_above[ROOMS..].iter().min().unwrap();
+        self.often("none for the room alone, of the byte above 7 with fewest", barred, 10);
+        for (at, what) in ["refused by another number", "a seat missing", "a set"].into_iter().enumerate() {
+            let least = self.reached.rooms.iter().map(|n| n[at]).min().unwrap();
+            self.often(&format!("{what}, of the room of a view with fewest"), least, 1000);
+        }
+        let above = *self.reached.above[ROOMS..].iter().min().unwrap();
+        self.often("20 and nothing else, of the byte above 7 with fewest", above, 3);
+    }
+
     fn met_refusals(&mut self) {
-        for n in [0, 4, 5, 6, 8, 10, 17] {
+        for n in [0, 4, 5, 6, 8, 10, 17, 20] {
             self.often(&format!("answer {n}"), self.reached.answers[n], 1000);
         }
         for (reason, n) in REASONS {

@@ -1,10 +1,37 @@
-// Worked sheets: the sync record that a desk makes, who came along by a sheet, the refusals and their order. What is
-// expected is written from documents 01 and 02. A try is one call: its answer, the bytes or the set after it. Bytes
-// and sets that are not written are 170, as they were lent.
-use crate::sheet_calls::{room_came_along, room_seat_sync};
-use crate::{notice, p, report, view, Tally, FAST, L, LENT_BYTE};
+// Worked sheets: the sync record that a desk makes in a room, who came along by a sheet, the refusals and their order.
+// What is expected is written from documents 01 and 02. A try is one call: its answer, the bytes or the set after it.
+// Bytes and sets that are not written are 170, as they were lent.
+use crate::sheet_calls::{room_came_along, room_desk_sync};
+use crate::{Tally, L, LENT_BYTE};
 
 const LENT_SET: u64 = 170;
+
+// The room of the views and of the sheet, where none is named.
+const ROOM: u8 = 5;
+
+fn in_room(room: u8, record: &[u8]) -> Vec<u8> {
+    [&record[..2], &[room], &record[3..]].concat()
+}
+
+fn notice(start: u32, members: u64) -> Vec<u8> {
+    [&b"SC"[..], &[ROOM], &start.to_be_bytes(), &members.to_be_bytes()].concat()
+}
+
+// The start numbers of offices 0 and 1 are given, the others are 0.
+fn view(number: u32, members: u64, start_0: u32, start_1: u32) -> Vec<u8> {
+    let starts = [&start_0.to_be_bytes()[..], &start_1.to_be_bytes(), &[0; 56]].concat();
+    [&b"VW"[..], &[ROOM], &number.to_be_bytes(), &members.to_be_bytes(), &starts].concat()
+}
+
+// The words of a desk with this seat and, in one room, this start number, view number and open word; in each other
+// room are other words.
+fn desk(seat: u32, room: usize, machine: [u32; 3]) -> Vec<u32> {
+    let mut words = vec![seat];
+    for other in 0..8 {
+        words.extend(if other == room { machine } else { [100 + other as u32, 200 + other as u32, 1] });
+    }
+    words
+}
 
 fn sync(seat: u8, start: u32, previous: u32) -> Vec<u8> {
     [&b"SY"[..], &[seat], &start.to_be_bytes(), &previous.to_be_bytes()].concat()
@@ -19,10 +46,10 @@ fn asked(sheet: &[u8], view: &[u8], previous: u32) -> (u32, u32, u64) {
 }
 
 impl Tally {
-    // The count and the whole output.
-    fn makes(&mut self, name: &str, words: &[u32], room: usize, expected: (usize, Vec<u8>)) {
-        let mut out = vec![LENT_BYTE; room];
-        let count = unsafe { room_seat_sync(words.as_ptr(), words.len(), out.as_mut_ptr(), room) };
+    // The record of a desk in a room: the count and the whole output.
+    fn makes(&mut self, name: &str, words: &[u32], room: u8, capacity: usize, expected: (usize, Vec<u8>)) {
+        let mut out = vec![LENT_BYTE; capacity];
+        let count = unsafe { room_desk_sync(words.as_ptr(), words.len(), room, out.as_mut_ptr(), capacity) };
         self.say(name, (count, out) == expected);
     }
 
@@ -64,20 +91,30 @@ pub fn all(t: &mut Tally) {
 
 fn sync_records(t: &mut Tally) {
     let record = [0x53, 0x59, 4, 0, 0, 0, 1, 0, 0, 0, 2];
-    let unwritten = |room| (0, vec![LENT_BYTE; room]);
-    t.makes("seat 4 with start number 1 and view 2", &[4, 1, 2, 1], 11, (11, record.to_vec()));
-    t.makes("12 bytes of room: the last stays", &[4, 1, 2, 1], 12, (11, [&record[..], &[LENT_BYTE]].concat()));
-    t.makes("10 bytes of room", &[4, 1, 2, 1], 10, unwritten(10));
-    t.makes("no room", &[4, 1, 2, 1], 0, unwritten(0));
-    t.makes("no change open: the same record", &[4, 1, 2, 0], 11, (11, record.to_vec()));
-    t.makes("a fresh seat", &[63, 0, 0, 0], 11, (11, sync(63, 0, 0)));
+    let (four, made) = (desk(4, 0, [1, 2, 1]), (11, record.to_vec()));
+    let unwritten = |capacity| (0, vec![LENT_BYTE; capacity]);
+    t.makes("seat 4 with start number 1 and view 2 in room 0", &four, 0, 11, made.clone());
+    t.makes("the same desk in room 1", &four, 1, 11, (11, sync(4, 101, 201)));
+    t.makes("the same desk in room 7", &four, 7, 11, (11, sync(4, 107, 207)));
+    t.makes("room 8 is none", &four, 8, 11, unwritten(11));
+    t.makes("room 128 is none", &four, 128, 11, unwritten(11));
+    t.makes("room 255 is none", &four, 255, 11, unwritten(11));
+    t.makes("seat 4 with start number 1 and view 2 in room 7", &desk(4, 7, [1, 2, 1]), 7, 11, made.clone());
+    t.makes("12 bytes lent: the last stays", &four, 0, 12, (11, [&record[..], &[LENT_BYTE]].concat()));
+    t.makes("10 bytes lent", &four, 0, 10, unwritten(10));
+    t.makes("no byte lent", &four, 0, 0, unwritten(0));
+    t.makes("no change open: the same record", &desk(4, 3, [1, 2, 0]), 3, 11, made);
+    t.makes("a fresh desk", &[&[63][..], &[0; 24]].concat(), 6, 11, (11, sync(63, 0, 0)));
     t.makes("numbers of four bytes",
-        &[0, 0x0102_0304, 0x0506_0708, 1], 11, (11, b"SY\x00\x01\x02\x03\x04\x05\x06\x07\x08".to_vec()));
-    t.makes("numbers above L are written as they are", &[0, L + 1, u32::MAX, 1], 11, (11, sync(0, L + 1, u32::MAX)));
-    t.makes("seat 64 is none", &[64, 1, 2, 1], 11, unwritten(11));
-    t.makes("seat 260 is none", &[260, 1, 2, 1], 11, unwritten(11));
-    t.makes("three words are no seat", &[4, 1, 2], 11, unwritten(11));
-    t.makes("five words are no seat", &[4, 1, 2, 1, 0], 11, unwritten(11));
+        &desk(0, 2, [0x0102_0304, 0x0506_0708, 1]), 2, 11, (11, b"SY\x00\x01\x02\x03\x04\x05\x06\x07\x08".to_vec()));
+    t.makes("numbers above L are written as they are",
+        &desk(0, 4, [L + 1, u32::MAX, 1]), 4, 11, (11, sync(0, L + 1, u32::MAX)));
+    t.makes("numbers above L in another room", &desk(0, 4, [L + 1, u32::MAX, 1]), 3, 11, (11, sync(0, 103, 203)));
+    t.makes("seat 64 is none", &desk(64, 0, [1, 2, 1]), 0, 11, unwritten(11));
+    t.makes("seat 260 is none", &desk(260, 0, [1, 2, 1]), 0, 11, unwritten(11));
+    t.makes("four words are no desk", &[4, 1, 2, 1], 0, 11, unwritten(11));
+    t.makes("24 words are no desk", &four[..24], 0, 11, unwritten(11));
+    t.makes("26 words are no desk", &[&four[..], &[0]].concat(), 0, 11, unwritten(11));
 }
 
 fn three(t: &mut Tally) {
@@ -85,6 +122,8 @@ fn three(t: &mut Tally) {
     t.came("three desks, from view 2", &three_desks(), &view_3(), 2, 0x03);
     t.came("three desks, from no view", &three_desks(), &view_3(), 0, 0x10);
     t.came("three desks, from view 1: nobody", &three_desks(), &view_3(), 1, 0);
+    t.came("three desks, in room 0", &three_desks(), &in_room(0, &view_3()), 2, 0x03);
+    t.came("three desks, in room 7", &three_desks(), &in_room(7, &view_3()), 2, 0x03);
     t.came("three desks, in another order", &[four.clone(), one.clone(), zero.clone()], &view_3(), 2, 0x03);
     let no_members = [sync(2, 2, 2), sync(5, 1, 2), sync(63, 0, 2)];
     t.came("records of seats 2, 5 and 63, which are no members",
@@ -147,12 +186,16 @@ fn view_refusals(t: &mut Tally) {
     t.not_read("one byte of a view gets 4", &sheet, b"V", 2, 4);
     t.not_read("a start notice gets 4", &sheet, &notice(2, 0x13), 2, 4);
     t.not_read("a view under a start notice's mark gets 4", &sheet, &[b"SC", &view_3()[2..]].concat(), 2, 4);
-    t.not_read("a report gets 4", &sheet, &report(0x13, 0), 2, 4);
-    t.not_read("a proposal gets 4", &sheet, &p(FAST, 1, 1, 0, 0), 2, 4);
+    t.not_read("a report gets 4", &sheet, &[&b"NE\x05"[..], &[0; 16]].concat(), 2, 4);
+    t.not_read("a proposal gets 4", &sheet, &[&b"PR\x05\x01\x01"[..], &[0; 80]].concat(), 2, 4);
     t.not_read("a sync record gets 4", &sheet, &sync(0, 2, 2), 2, 4);
     t.not_read("the mark of a view alone gets 5", &sheet, b"VW", 2, 5);
-    t.not_read("a view of 77 bytes gets 5", &sheet, &view_3()[..77], 2, 5);
-    t.not_read("a view of 79 bytes gets 5", &sheet, &[view_3(), vec![0]].concat(), 2, 5);
+    t.not_read("a view of 78 bytes gets 5", &sheet, &view_3()[..78], 2, 5);
+    t.not_read("a view without its room gets 5", &sheet, &[b"VW", &view_3()[3..]].concat(), 2, 5);
+    t.not_read("a view of 80 bytes gets 5", &sheet, &[view_3(), vec![0]].concat(), 2, 5);
+    for room in [8, 9, 16, 127, 128, 255] {
+        t.not_read(&format!("a view of room {room} gets 20"), &sheet, &in_room(room, &view_3()), 2, 20);
+    }
     t.not_read("a view number above L gets 8", &sheet, &view(L + 1, 0x13, 2, 1), 2, 8);
     t.not_read("a start number above L gets 8", &sheet, &view(3, 0x13, 2, L + 1), 2, 8);
     t.not_read("a start number above L of an office without a seat gets 8", &sheet, &view(3, 0x10, L + 1, 1), 2, 8);
@@ -181,6 +224,16 @@ fn sheet_refusals(t: &mut Tally) {
 // Each input is wrong in what comes after the number it gets.
 fn order_in_the_view(t: &mut Tally) {
     let (cut, bad) = ([vec![b'?'; 10]], [vec![b'?'; 11]]);
+    let above = |view: &[u8]| in_room(8, view);
+    t.not_read("4 before 20", &three_desks(), b"??\xff", 2, 4);
+    t.not_read("a start notice gets 4 before 20", &three_desks(), &above(&notice(2, 0x13)), 2, 4);
+    t.not_read("5 before 20", &three_desks(), &above(&view_3()[..78]), 2, 5);
+    t.not_read("20 before 8, a view number", &three_desks(), &above(&view(L + 1, 0x13, 2, 1)), 2, 20);
+    t.not_read("20 before 8, a start number", &three_desks(), &above(&view(3, 0x13, 2, L + 1)), 2, 20);
+    t.not_read("20 before 8, the own number", &three_desks(), &above(&view_3()), L + 1, 20);
+    t.not_read("20 before 10", &three_desks(), &above(&view(3, 0x03, 2, 1)), 2, 20);
+    t.not_read("20 before 17", &cut, &above(&view_3()), 2, 20);
+    t.not_read("20 before a bad record's 4", &bad, &above(&view_3()), 2, 20);
     t.not_read("4 before 8, the own number", &three_desks(), b"??", L + 1, 4);
     t.not_read("a start notice gets 4 before 8, the own number", &three_desks(), &notice(2, 0x13), L + 1, 4);
     t.not_read("5 before 8, the own number", &three_desks(), b"VW", L + 1, 5);

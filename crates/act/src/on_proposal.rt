@@ -13,10 +13,10 @@ ghost use Rattle.rules.specs.Refusals.{fullRoom, wellFormed};
 ghost use Rattle.row.specs.Row.{Row, stateOf};
 ghost use Rattle.event_parts.specs.Did.{Did};
 
-pub fn act_on_proposal(s: &mut [u32], p: Proposal, out: &mut [u8]) -> usize
+pub fn act_on_proposal(s: &mut [u32], p: Proposal, out: &mut [u8], room: u8) -> usize
     requires { ⌜ Row (now s) × (wellFormed (stateOf (now s)) ≡ true) × (fullRoom ≤ length (now out)) ⌝ }
     requires { ⌜ (p .sender < 16) × (p .start ≤ limit) × (p .number ≤ limit) ⌝ }
-    ensures { λ n. ⌜ Did (λ u. proposalRule u p) (now (s .entry)) (now (out .entry)) 0 (now (s .exit))
+    ensures { λ n. ⌜ Did room (λ u. proposalRule u p) (now (s .entry)) (now (out .entry)) 0 (now (s .exit))
         (now (out .exit)) n ⌝ }
 {
     let net = row::net(s);
@@ -25,5 +25,5 @@ pub fn act_on_proposal(s: &mut [u32], p: Proposal, out: &mut [u8]) -> usize
     if !members.equals(net) {
         return 0;
     }
-    tests(s, out, 0)
+    tests(s, out, 0, room)
 }

@@ -19,14 +19,14 @@ ghost use Rattle.event_parts.specs.Bounds.{Bounded};
 ghost use Rattle.event_parts.specs.Parts.{fastRound};
 
 // A report at an office with a seat in the net view.
-fn fast_round(s: &mut [u32], out: &mut [u8]) -> usize
+fn fast_round(s: &mut [u32], out: &mut [u8], room: u8) -> usize
     requires { ⌜ Row (now s) × Bounded limit (stateOf (now s)) × Fits fastRound (now s) (now out) 0
         × (seated (stateOf (now s)) ≡ true) ⌝ }
-    ensures { λ n. ⌜ Did fastRound (now (s .entry)) (now (out .entry)) 0 (now (s .exit)) (now (out .exit)) n ⌝ }
+    ensures { λ n. ⌜ Did room fastRound (now (s .entry)) (now (out .entry)) 0 (now (s .exit)) (now (out .exit)) n ⌝ }
 {
-    let noticed = opens(s, out, 0);
-    let made = proposes_fast(s, out, noticed);
-    tests(s, out, made)
+    let noticed = opens(s, out, 0, room);
+    let made = proposes_fast(s, out, noticed, room);
+    tests(s, out, made, room)
 }
 
 // Step 1: the net view with joining, then without leaving.
@@ -47,9 +47,9 @@ pub fn is_repeat(s: &[u32], r: Report) -> bool
 }
 
 // A report that is no repeat.
-pub fn act_on_change(s: &mut [u32], r: Report, out: &mut [u8]) -> usize
+pub fn act_on_change(s: &mut [u32], r: Report, out: &mut [u8], room: u8) -> usize
     requires { ⌜ Row (now s) × (wellFormed (stateOf (now s)) ≡ true) × (fullRoom ≤ length (now out)) ⌝ }
-    ensures { λ n. ⌜ Did (λ u. changeRule (withNet u (netAfter (u .net .bits) r))) (now (s .entry))
+    ensures { λ n. ⌜ Did room (λ u. changeRule (withNet u (netAfter (u .net .bits) r))) (now (s .entry))
         (now (out .entry)) 0 (now (s .exit))
         (now (out .exit)) n ⌝ }
 {
@@ -60,17 +60,17 @@ pub fn act_on_change(s: &mut [u32], r: Report, out: &mut [u8]) -> usize
     if !serves(net, own) {
         return 0;
     }
-    fast_round(s, out)
+    fast_round(s, out, room)
 }
 
 // A repeat does nothing.
-pub fn act_on_report(s: &mut [u32], r: Report, out: &mut [u8]) -> usize
+pub fn act_on_report(s: &mut [u32], r: Report, out: &mut [u8], room: u8) -> usize
     requires { ⌜ Row (now s) × (wellFormed (stateOf (now s)) ≡ true) × (fullRoom ≤ length (now out)) ⌝ }
-    ensures { λ n. ⌜ Did (λ u. reportRule u r) (now (s .entry)) (now (out .entry)) 0 (now (s .exit))
+    ensures { λ n. ⌜ Did room (λ u. reportRule u r) (now (s .entry)) (now (out .entry)) 0 (now (s .exit))
         (now (out .exit)) n ⌝ }
 {
     if is_repeat(s, r) {
         return 0;
     }
-    act_on_change(s, r, out)
+    act_on_change(s, r, out, room)
 }

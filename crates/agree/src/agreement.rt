@@ -25,14 +25,15 @@ fn agreed(s: &[u32]) -> bool
     lowest_lacking(s) == 16
 }
 
-pub fn agreement_test(s: &mut [u32], out: &mut [u8], at: usize) -> usize
+pub fn agreement_test(s: &mut [u32], out: &mut [u8], at: usize, room: u8) -> usize
     requires { ⌜ Row (now s) × Bounded reach (stateOf (now s)) × Fits agreementTest (now s) (now out) at ⌝ }
-    ensures { λ n. ⌜ Did agreementTest (now (s .entry)) (now (out .entry)) at (now (s .exit)) (now (out .exit)) n ⌝ }
+    ensures { λ n. ⌜ Did room agreementTest (now (s .entry)) (now (out .entry)) at (now (s .exit))
+        (now (out .exit)) n ⌝ }
 {
     if !agreed(s) {
         return at;
     }
     let view = view_of(s);
     conclude(s, view);
-    at + write_view(out, at, view)
+    at + write_view(out, at, view, room)
 }

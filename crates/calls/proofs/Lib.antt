@@ -1,7 +1,7 @@
 -- office
 mod Called
 mod ReportFits
--- seat
-pub mod InSeatWords
+-- desks
+pub mod InDeskWords
 -- restarts
 mod RestartNumbers

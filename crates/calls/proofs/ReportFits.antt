@@ -10,10 +10,10 @@ use Rattle.records.specs.Layout.{reportLength, encodeReport}
 use Rattle.records.specs.Write.{Placed, placedCount}
 use Rattle.records.proofs.Lengths.{report-length}
 
-pub report-fits : (out : List ℕ) (at : ℕ) (r : Report) (n : ℕ) (after : List ℕ)
-    → Placed out at (encodeReport r) n after → n ≤ reportLength
+pub report-fits : (out : List ℕ) (at : ℕ) (room : ℕ) (r : Report) (n : ℕ) (after : List ℕ)
+    → Placed out at (encodeReport room r) n after → n ≤ reportLength
 unfolding placedCount
-report-fits out at r n after h =
-    let size = report-length r in
-    rw (h .count) (if-cases (λ (k : ℕ). k ≤ reportLength) (leb (at + length (encodeReport r)) (length out))
-    (length (encodeReport r)) 0 (λ e. omega arith) (λ e. omega arith))
+report-fits out at room r n after h =
+    let size = report-length room r in
+    rw (h .count) (if-cases (λ (k : ℕ). k ≤ reportLength) (leb (at + length (encodeReport room r)) (length out))
+    (length (encodeReport room r)) 0 (λ e. omega arith) (λ e. omega arith))

@@ -4,8 +4,8 @@ pub mod Number
 pub mod OfficeCalls
 -- waits
 pub mod WaitingCalls
--- seat
-pub mod SeatWords
+-- desks
+pub mod DeskWords
 -- along
 pub mod AlongWord
 -- restarts

@@ -16,4 +16,4 @@ abbrev pub beforeNumber : DueMark → ℕ
 beforeNumber b = callNumber (256 * b .mark + b .length) (b .refusal)
 
 unfoldable pub beforeCall : ℕ → List ℕ → ℕ → ℕ
-beforeCall last rest room = beforeNumber (beforeOf last rest room)
+beforeCall last rest output = beforeNumber (beforeOf last rest output)

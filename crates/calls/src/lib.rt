@@ -12,8 +12,8 @@ mod office;
 // Whom an office waits for.
 mod waits;
 
-// A seat at its desk.
-mod seat;
+// A desk with its rooms.
+mod desks;
 
 // Who came along from the old view.
 mod along;

@@ -1,4 +1,4 @@
-// What an office that may lose its current calls from C: its file of high marks, the state with which it begins again,
+// What an office that may lose its current calls from C: its file of high marks, the table with which it begins again,
 // the mark before a record leaves; include/room.h declares it.
 use restart::DueMark;
 use restart::last_mark;
@@ -7,18 +7,18 @@ ghost use mathlib.Core.Path.{_≡_};
 ghost use Prim.Native.Nat.{_≤_};
 ghost use lib.ListN.{length};
 ghost use Rattle.records.specs.Layout.{proposalLength};
-ghost use Rattle.restart.specs.Restart.{restartRow};
+ghost use Rattle.restart.specs.Restart.{restartWords};
 ghost use Rattle.restart.specs.Before.{outBefore};
 ghost use Rattle.calls.specs.Number.{callNumber};
 ghost use Rattle.calls.specs.RestartCalls.{lastMarkCall, beforeNumber, beforeCall};
 
-// Makes the state of an office that begins again in the words lent.
+// Makes the table of an office that begins again in the words lent.
 #[no_mangle]
-pub extern "C" fn room_restart(office: u8, file: &[u8], state: &mut [u32]) -> u8
-    ensures { λ r. ⌜ record { refusal = r; words = now (state .exit) }
-        ≡ restartRow office (now (file .entry)) (now (state .entry)) ⌝ }
+pub extern "C" fn room_restart(office: u8, file: &[u8], table: &mut [u32]) -> u8
+    ensures { λ r. ⌜ record { refusal = r; words = now (table .exit) }
+        ≡ restartWords office (now (file .entry)) (now (table .entry)) ⌝ }
 {
-    restart::restart(office, file, state)
+    restart::restart(office, file, table)
 }
 
 fn mark_number(number: u32, refusal: u8) -> u64

@@ -1,25 +1,27 @@
 -- lib.rt: what is answered at each exit, by what the reader, the checks and the pass tell.
 use mathlib.Core.Path.{_≡_, sym, ap, _∙_}
+use mathlib.Core.Bool.{true, false}
 use mathlib.Core.List.{List, map}
-use Prim.Native.Nat.{ℕ}
+use Prim.Native.Nat.{ℕ, _<_}
 use native.Mathlib.Decide.{ℕ-discrete}
 use lib.ListN.{length}
-use borrow.Author.Tests.{ne-eqb}
+use borrow.Author.Tests.{leb-true, leb-false, ne-eqb}
 use Rattle.laws.specs.Checks.{firstOf}
 use Rattle.laws.proofs.Lowest.{lowest-same}
 use Rattle.seats.specs.Seats.{seatCount, has, lowestSeat}
 use Rattle.seats.specs.Offices.{packed}
 use Rattle.seats.proofs.OfficeLaws.{has-packed}
-use Rattle.records.specs.Layout.{viewMark, viewLength, checkOwn, decodeView, decodeSync}
+use Rattle.records.specs.Numbers.{roomCount, roomAbove}
+use Rattle.records.specs.Layout.{viewMark, viewLength, checkOwn, roomOf, decodeView, decodeSync}
 use Rattle.records.specs.declared.View.{View}
 use Rattle.records.specs.declared.Sync.{Sync}
 use Rattle.record_bytes.specs.declared.views.ViewRead.{ViewRead}
 use Rattle.record_bytes.specs.views.Read.{readView}
-use Rattle.record_bytes.proofs.views.Reading.{view-refusal, view-decoded}
+use Rattle.record_bytes.proofs.views.Reading.{view-refusal, view-decoded, view-room-read}
 use Rattle.sheet.specs.declared.Along.{Along}
 use Rattle.sheet.specs.declared.Along.the-variants as answers
 use Rattle.sheet.specs.Sheet.{recordsOn, lacksRecord, answerFrom, askChecks, firstBad, cameAlong}
-use Rattle.sheet.proofs.Exits.{along-unread, along-asked, along-bad, along-good}
+use Rattle.sheet.proofs.Exits.{along-unread, along-20, along-asked, along-bad, along-good}
 use Rattle.came_along.specs.declared.sheet_pass.Passed.{Passed}
 use Rattle.came_along.specs.Pass.{foundAfter, passOf}
 use Rattle.came_along.specs.Found.{foundAnswer, recordsAnswer}
@@ -62,11 +64,21 @@ module _ (sheet view : List ℕ) (previous : ℕ) (r : ViewRead) (is-read : r �
     passes : checkOwn viewMark viewLength view ≡ 0
     passes = sym (view-refusal view) ∙ sym unread ∙ z
 
-    module _ (n : ℕ) (asked : n ≡ firstOf (askChecks (r .view) previous (length sheet))) where
+    in-room : r .room ≡ roomOf view
+    in-room = ap (λ (x : ViewRead). x .room) is-read ∙ view-room-read view (sym unread ∙ z)
+
+    pub at-20 : roomAbove (r .room) ≡ true → answers.Refused 20 ≡ cameAlong sheet view previous
+    at-20 above = sym (along-20 sheet view previous passes (leb-true roomCount (roomOf view) (rw in-room at above)))
+
+    module _ (low : roomAbove (r .room) ≡ false) (n : ℕ)
+        (asked : n ≡ firstOf (askChecks (r .view) previous (length sheet))) where
+      below : roomOf view < roomCount
+      below = leb-false roomCount (roomOf view) (rw in-room at low)
+
       pub at-asked : (n ≡ 0 → ⊥) → answers.Refused n ≡ cameAlong sheet view previous
       at-asked h =
           let e : n ≡ firstOf (askChecks (decodeView view) previous (length sheet)) = rw shown at asked in
-          rw e (sym (along-asked sheet view previous passes (λ q. h (e ∙ q))))
+          rw e (sym (along-asked sheet view previous passes below (λ q. h (e ∙ q))))
 
       -- what is asked passes its checks: the records have the word
       pub at-records : n ≡ 0 → (a : Along) → a ≡ recordsAnswer (r .view) previous (recordsOn sheet)
@@ -79,5 +91,6 @@ module _ (sheet view : List ℕ) (previous : ℕ) (r : ViewRead) (is-read : r �
 
           go : Dec (firstBad (recordsOn sheet) ≡ 0)
               → recordsAnswer (decodeView view) previous (recordsOn sheet) ≡ cameAlong sheet view previous
-          go (yes z) = rw (along-good sheet view previous passes none-asked z, z)
-          go (no h) = rw (along-bad sheet view previous passes none-asked h, ne-eqb (firstBad (recordsOn sheet)) 0 h)
+          go (yes z) = rw (along-good sheet view previous passes below none-asked z, z)
+          go (no h) =
+              rw (along-bad sheet view previous passes below none-asked h, ne-eqb (firstBad (recordsOn sheet)) 0 h)

@@ -2,6 +2,7 @@
 use checks::ask_refusal;
 use record_bytes::views::read_view;
 use records::View;
+use records::numbers::room_above;
 use seats::SEATS;
 use sheet_pass::Found;
 use sheet_pass::pass;
@@ -48,6 +49,9 @@ pub fn came_along(sheet: &[u8], view: &[u8], previous: u32) -> Along
     let read = read_view(view);
     if read.refusal != 0 {
         return Along::Refused(read.refusal);
+    }
+    if room_above(read.room) {
+        return Along::Refused(20);
     }
     let shown = read.view;
     let refusal = ask_refusal(shown, previous, sheet.len());

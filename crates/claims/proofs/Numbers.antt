@@ -1,4 +1,4 @@
--- Each number from 2 to 13, and 19, is met: by the inputs of `refusals`, and on days D, H and K of document 01.
+-- Each number from 2 to 13, and 19 and 20, is met: by the inputs of `refusals`, and on days D, H and K of document 01.
 use mathlib.Core.Path.{_≡_, ap}
 use mathlib.Core.List.{List, [], _∷_}
 use Prim.Native.Nat.{ℕ}
@@ -23,14 +23,14 @@ input k = ap (λ (l : List ℕ). getD l k 0) each-reason
 day : (k : ℕ) (d : Day) → getD computed k d .refusal ≡ getD stated k d .refusal
 day k d = ap (λ (l : List Day). getD l k d .refusal) days
 
-pub each-met : Every Met (2 ∷ 3 ∷ 4 ∷ 5 ∷ 6 ∷ 7 ∷ 8 ∷ 9 ∷ 10 ∷ 11 ∷ 12 ∷ 13 ∷ 19 ∷ [])
+pub each-met : Every Met (2 ∷ 3 ∷ 4 ∷ 5 ∷ 6 ∷ 7 ∷ 8 ∷ 9 ∷ 10 ∷ 11 ∷ 12 ∷ 13 ∷ 19 ∷ 20 ∷ [])
 unfolding refusals reasons computed stated
 each-met =
     more (by-step _ _ _ (input 0)) (more (by-step _ _ _ (input 1))
-    (more (by-given _ _ (input 2)) (more (by-given _ _ (input 4)) (more (by-given _ _ (input 6))
-    (more (by-given _ _ (input 8)) (more (by-given _ _ (input 10)) (more (by-given _ _ (input 14))
-    (more (by-given _ _ (input 16)) (more (by-given _ _ (day 3 none-seen)) (more (by-given _ _ (day 7 none-seen))
-    (more (by-given _ _ (day 13 none-seen)) (more (by-given _ _ (input 17)) none))))))))))))
+    (more (by-given _ _ (input 2)) (more (by-given _ _ (input 4)) (more (by-given _ _ (input 10))
+    (more (by-given _ _ (input 12)) (more (by-given _ _ (input 14)) (more (by-given _ _ (input 18))
+    (more (by-given _ _ (input 20)) (more (by-given _ _ (day 3 none-seen)) (more (by-given _ _ (day 7 none-seen))
+    (more (by-given _ _ (day 13 none-seen)) (more (by-given _ _ (input 21)) (more (by-given _ _ (input 6)) none)))))))))))))
   where
     none-seen : Day
     none-seen = record { refusal = 0; bytes = 0; written = []; view = 0 }

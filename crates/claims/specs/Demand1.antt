@@ -8,104 +8,112 @@ use Prim.Native.Nat.{ℕ, _≤_, _<_}
 use lib.ListN.{length, getD}
 use Rattle.laws.specs.Checks.{firstOf}
 use Rattle.laws.specs.Lists.{Every}
-use Rattle.records.specs.Layout.{reportMark, reportLength, proposalMark, proposalLength, checkOf, checkOwn}
-use Rattle.records.specs.Numbers.{limit}
+use Rattle.records.specs.Layout.{reportMark, reportLength, proposalMark, proposalLength, roomOf, checkOf, checkOwn}
+use Rattle.records.specs.Numbers.{limit, roomCount}
 use Rattle.records.specs.Run.{readingOf, WholeReading}
 use Rattle.records.specs.declared.Proposal.{Proposal}
 use Rattle.rules.specs.State.{State}
 use Rattle.rules.specs.Rules.{fresh}
 use Rattle.rules.specs.Refusals.{wellFormed, fullRoom, madeOf, Event, eventOf, proposalChecks, refusalOf, ruleOf}
-use Rattle.rules.specs.Refusals.{refused, stepOf, allBytes, size, accepted}
+use Rattle.rules.specs.Refusals.{readCheck, refused, stepOf, allBytes, size, accepted}
+use Rattle.rules.specs.Tables.{Table}
 use Rattle.rule_laws.proofs.Reasons.{Answer}
 use Rattle.rule_laws.proofs.Shapes.{Shaped}
 use Rattle.rule_laws.proofs.Steps.{Accepts, Passes, WellFormed}
-use Rattle.runs.specs.Office.{stateAfter, logOf, sentIn}
-use Rattle.row.specs.Row.{Row, rowLength, word, isRow, stateOf, wordsOf}
-use Rattle.row.proofs.Holds.{Holds}
-use Rattle.step.specs.Fresh.{freshRow}
-use Rattle.step.specs.Step.{stepRow, Stepped}
+use Rattle.rooms.specs.Handing.{tableAfter, tableSent}
+use Rattle.row.specs.Row.{Row, word, stateOf, wordsOf}
+use Rattle.row.specs.Table.{tableLength, tableOf, tableWords, isTable}
+use Rattle.step.specs.Fresh.{freshWords}
+use Rattle.step.specs.Step.{stepWords, Stepped}
 use Rattle.step.proofs.Holds.{InFront}
-use Rattle.code_runs.specs.Rows.{Handed, rowAfter, rowSent, inputsOf}
+use Rattle.code_runs.specs.Words.{Handed, wordsAfter, wordsSent, eventsOf}
+use Rattle.code_runs.proofs.Runs.{HoldsTable}
 use Rattle.text.specs.Lines.{textOf}
 use Rattle.text.proofs.Example as Example
-use Rattle.feed.specs.Made.{StateMade}
+use Rattle.feed.specs.Made.{TableMade}
 use Rattle.feed.specs.Turn.{Stand}
 use Rattle.feed.specs.Whole.{Run, Broken, writtenBy, Answers}
 
 -- a number that the step gives for some state, bytes and output
 abbrev pub Met : ℕ → Type 0
-Met n = (s : State) × (b : List ℕ) × (room : ℕ) × (stepOf s b room .refusal ≡ n)
+Met n = (s : State) × (b : List ℕ) × (output : ℕ) × (stepOf s b output .refusal ≡ n)
 
--- The rules: any state, any bytes, any output.
+-- The rules, in one room: any state, any bytes, any output. Request 9 below carries them to a table of rooms.
 pub record Rules : Type 0 where
   -- What is refused is refused with the state and the output unchanged,
-  pub refusal-keeps : (s : State) (b : List ℕ) (room : ℕ) → (stepOf s b room .refusal ≡ 0 → ⊥)
-      → stepOf s b room ≡ refused (stepOf s b room .refusal) s
-  -- under one number from 2 to 13, or under 19; the answer is 0 otherwise;
-  pub one-number : (s : State) (b : List ℕ) (room : ℕ) → Answer (stepOf s b room .refusal)
+  pub refusal-keeps : (s : State) (b : List ℕ) (output : ℕ) → (stepOf s b output .refusal ≡ 0 → ⊥)
+      → stepOf s b output ≡ refused (stepOf s b output .refusal) s
+  -- under one number from 2 to 13, or under 19 or 20; the answer is 0 otherwise;
+  pub one-number : (s : State) (b : List ℕ) (output : ℕ) → Answer (stepOf s b output .refusal)
   -- each of these numbers is met;
-  pub each-number : Every Met (2 ∷ 3 ∷ 4 ∷ 5 ∷ 6 ∷ 7 ∷ 8 ∷ 9 ∷ 10 ∷ 11 ∷ 12 ∷ 13 ∷ 19 ∷ [])
+  pub each-number : Every Met (2 ∷ 3 ∷ 4 ∷ 5 ∷ 6 ∷ 7 ∷ 8 ∷ 9 ∷ 10 ∷ 11 ∷ 12 ∷ 13 ∷ 19 ∷ 20 ∷ [])
   -- making a state answers 0 or 1,
   pub made-number : (office : ℕ) → (madeOf office .refusal ≡ 0) ⊎ (madeOf office .refusal ≡ 1)
   -- 1 where the office number is above 15: the fresh state of office 0 comes back with it.
   pub made-above : (office : ℕ) → 15 < office → madeOf office ≡ record { refusal = 1; state = fresh 0 }
   -- What is accepted has passed every check,
-  pub accepted-passes : (s : State) (b : List ℕ) (room : ℕ) → stepOf s b room .refusal ≡ 0 → Accepts s b room
+  pub accepted-passes : (s : State) (b : List ℕ) (output : ℕ) → stepOf s b output .refusal ≡ 0 → Accepts s b output
   -- and what passes every check is accepted: its rule is done.
-  pub passes-accepted : (s : State) (b : List ℕ) (room : ℕ) → Accepts s b room
-      → stepOf s b room ≡ accepted (ruleOf s (eventOf b))
+  pub passes-accepted : (s : State) (b : List ℕ) (output : ℕ) → Accepts s b output
+      → stepOf s b output ≡ accepted (ruleOf s (eventOf b))
   -- Check 2 passes where the own office is at most 15 and no number is above L,
   pub state-check : (s : State) → (wellFormed s ≡ true) ↔ WellFormed s
   -- 4 and 5 only where the bytes have the mark and the length of a report or of a proposal,
   pub read-checks : (b : List ℕ) → checkOf b ≡ 0
       → (checkOwn reportMark reportLength b ≡ 0) ⊎ (checkOwn proposalMark proposalLength b ≡ 0)
+  -- 20 only where the room is above 7,
+  pub room-check : (b : List ℕ) → (readCheck b ≡ 0) ↔ ((checkOf b ≡ 0) × (roomOf b < roomCount))
   -- 6 to 12 and 19 where the proposal is what their sentences ask for,
   pub proposal-checks : (s : State) (p : Proposal) → (firstOf (proposalChecks s p) ≡ 0) ↔ Passes s p
   -- and 13 where the event makes no start, proposal or view number above L.
   pub ceiling : (s : State) (e : Event) → wellFormed s ≡ true → refusalOf s e ≡ 0 → let t = ruleOf s e .state in
       (wellFormed t ≡ true) ↔ ((t .start ≤ limit) × (t .number ≤ limit) × (t .view .number ≤ limit))
   -- No event leaves a state that the next one would refuse,
-  pub stays-well : (s : State) (b : List ℕ) (room : ℕ) → wellFormed s ≡ true
-      → wellFormed (stepOf s b room .state) ≡ true
-  -- and none writes more than 182 bytes.
-  pub never-more : (s : State) (b : List ℕ) (room : ℕ) → size (stepOf s b room .written) ≤ fullRoom
+  pub stays-well : (s : State) (b : List ℕ) (output : ℕ) → wellFormed s ≡ true
+      → wellFormed (stepOf s b output .state) ≡ true
+  -- and none writes more than 185 bytes.
+  pub never-more : (s : State) (b : List ℕ) (output : ℕ) → size (stepOf s b output .written) ≤ fullRoom
   -- Every input of records is read to its end, and its parts are the input.
   pub whole-input : (b : List ℕ) → WholeReading b (readingOf b)
 
--- The code, on a row of words.
+-- The code, on a table of words.
 pub record Code : Type 0 where
   -- A row comes back from the state that it holds,
   pub words-state : (ws : List ℕ) → Row ws → ((k : ℕ) → getD ws k 0 < word) → wordsOf (stateOf ws) ≡ ws
-  -- and a state from its words.
+  -- a state from its words,
   pub state-words : (s : State) → Shaped s → stateOf (wordsOf s) ≡ s
-  -- A row that is made holds the state that is made.
-  pub row-made : (office : ℕ) (ws : List ℕ) → length ws ≡ rowLength
-      → Holds (freshRow office ws .words) (madeOf office .state)
-  -- A run of the step is a run of the rules, from any row and so from a fresh one: in what the words hold after it,
-  pub row-runs : (ws : List ℕ) (hs : List Handed) → Row ws
-      → Holds (rowAfter ws hs) (stateAfter (stateOf ws) (inputsOf hs))
-  -- and in what was sent.
-  pub row-sends : (ws : List ℕ) (hs : List Handed) → Row ws
-      → rowSent ws hs ≡ sentIn (logOf (stateOf ws) (inputsOf hs))
-  -- Words that are no row get 2 and stay.
-  pub no-row : (ws b : List ℕ) (room : ℕ) → isRow ws ≡ false
-      → stepRow ws b room ≡ record { refusal = 2; written = []; words = ws }
+  -- and so the states of a table, room by room.
+  pub table-words : (t : Table) → ((room : ℕ) → room < roomCount → Shaped (t room)) → (room : ℕ) → room < roomCount
+      → tableOf (tableWords t) room ≡ t room
+  -- A table that is made holds in every room the state that is made.
+  pub table-made : (office : ℕ) (ws : List ℕ) → length ws ≡ tableLength → (room : ℕ) → room < roomCount
+      → tableOf (freshWords office ws .words) room ≡ madeOf office .state
+  -- A run of the step is a run of the rules, from any table and so from a fresh one: in what the words hold after it,
+  pub table-runs : (ws : List ℕ) (hs : List Handed) → isTable ws ≡ true
+      → HoldsTable (wordsAfter ws hs) (tableAfter (tableOf ws) (eventsOf hs))
+  -- and in what was sent, each record with its room.
+  pub table-sends : (ws : List ℕ) (hs : List Handed) → isTable ws ≡ true
+      → wordsSent ws hs ≡ tableSent (tableOf ws) (eventsOf hs)
+  -- Words that are no table get 2 and stay.
+  pub no-table : (ws b : List ℕ) (output : ℕ) → isTable ws ≡ false
+      → stepWords ws b output ≡ record { refusal = 2; written = []; words = ws }
   -- Acceptance writes from the output's start; bytes after the count are untouched.
-  pub in-front : (ws b o o′ ws′ : List ℕ) (n w : ℕ) → Stepped (stepRow ws b (length o)) o n w ws′ o′
-      → InFront (allBytes (stepRow ws b (length o) .written)) o o′
+  pub in-front : (ws b o o′ ws′ : List ℕ) (n w : ℕ)
+      → Stepped (roomOf b) (stepWords ws b (length o)) o n w ws′ o′
+      → InFront (allBytes (roomOf b) (stepWords ws b (length o) .written)) o o′
 
 -- The program, whose run is a run of turns.
 pub record Program : Type 0 where
   -- Where it stops, what was written and what is unwritten are the text for the input, whatever of it is unread.
-  pub whole-text : {traced : Bool} {office n : ℕ} {ws input output : List ℕ} {b : Stand} → StateMade office true ws
+  pub whole-text : {traced : Bool} {office n : ℕ} {ws input output : List ℕ} {b : Stand} → TableMade office true ws
       → Run traced ws n input output false b → (f : List ℕ) → (b .ended ≡ true → f ≡ [])
       → textOf traced (office ∷ (input ++ f)) ≡ output ++ b .unwritten
   -- Before that it has answered records that came whole: what was written and what is unwritten are the text for
   -- these, and there is no line for the rest.
-  pub going-text : {traced : Bool} {office n : ℕ} {ws input output : List ℕ} {b : Stand} → StateMade office true ws
+  pub going-text : {traced : Bool} {office n : ℕ} {ws input output : List ℕ} {b : Stand} → TableMade office true ws
       → Run traced ws n input output true b → Answers traced office input output b
   -- So it is where a read or a write fails; where a read does, all is written.
-  pub fault-text : {traced unread : Bool} {office : ℕ} {ws : List ℕ} {b : Stand} → StateMade office true ws
+  pub fault-text : {traced unread : Bool} {office : ℕ} {ws : List ℕ} {b : Stand} → TableMade office true ws
       → (k : Broken traced ws unread b)
       → Answers traced office (k .input) (writtenBy k) b × (unread ≡ true → b .unwritten ≡ [])
   -- No office byte counts as one above 15.

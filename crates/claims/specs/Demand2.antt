@@ -21,7 +21,7 @@ use Rattle.records.specs.declared.Sync.{Sync}
 use Rattle.records.specs.declared.High.{High}
 use Rattle.records.specs.Fits.{FitsReport, FitsProposal, FitsNotice, FitsView, FitsSync, FitsHigh}
 use Rattle.records.specs.Layout.{encodeReport, encodeProposal, encodeNotice, encodeView, encodeSync, encodeHigh}
-use Rattle.records.specs.Layout.{checkOwn, decodeReport, decodeProposal, decodeNotice, decodeView, decodeSync}
+use Rattle.records.specs.Layout.{roomOf, checkOwn, decodeReport, decodeProposal, decodeNotice, decodeView, decodeSync}
 use Rattle.records.specs.Layout.{decodeHigh, reportMark, proposalMark, noticeMark, viewMark, syncMark, highMark}
 use Rattle.records.specs.Layout.{reportLength, proposalLength, noticeLength, viewLength, syncLength, highLength}
 use Rattle.rules.specs.State.{Fast, State, zeros, keeping, storedAt, acceptedAt, usedAt}
@@ -33,8 +33,8 @@ use Rattle.rule_laws.proofs.Written.{ViewLast, SeatsOnly, RecordWithin}
 use Rattle.moshe.specs.Moshe.{Leaves, initially, nothingSent, serverOf, stateFrom}
 use Rattle.moshe.specs.Moshe.{fastOnProposal, fastOnNE, onProposal01, onNE01, Known, OwnFast, OthersKnown}
 use Rattle.runs.specs.Office.{Input, LogEntry, answerOf, logOf, Before, CountedAt}
-use Rattle.row.specs.Row.{Row, stateOf}
-use Rattle.code_runs.specs.Rows.{Handed, rowAnswer}
+use Rattle.row.specs.Table.{tableOf, isTable}
+use Rattle.code_runs.specs.Words.{Handed, wordsAnswer}
 
 -- The figures of the paper beside the rules, on every state.
 pub record Figures : Type 0 where
@@ -89,9 +89,10 @@ pub record Views : Type 0 where
   -- A view that is sent is of the net view at that moment: none is known to be obsolete.
   pub of-net-view : (e : LogEntry) (v : View) → List·Memᴰ (view v) (answerOf e .written)
       → v .members ≡ answerOf e .state .net
-  -- One that the code sends is of the net view that its words hold then.
-  pub code-view : (ws : List ℕ) (h : Handed) → Row ws → (v : View) → List·Memᴰ (view v) (rowAnswer ws h .written)
-      → v .members ≡ stateOf (rowAnswer ws h .words) .net
+  -- One that the code sends is of the net view that its words hold then in its room.
+  pub code-view : (ws : List ℕ) (h : Handed) → isTable ws ≡ true → (v : View)
+      → List·Memᴰ (view v) (wordsAnswer ws h .written)
+      → v .members ≡ tableOf (wordsAnswer ws h .words) (roomOf (h .bytes)) .net
   -- The net view is what step 1 of a report makes of it,
   pub net-by-report : (s : State) (r : Report) → reportRule s r .state .net .bits ≡ netAfter (s .net .bits) r
   -- and a proposal leaves it.
@@ -100,30 +101,35 @@ pub record Views : Type 0 where
 -- What an event writes.
 pub record Writes : Type 0 where
   -- A view is written after all else.
-  pub view-last : (s : State) (b : List ℕ) (room : ℕ) → ViewLast (stepOf s b room .written)
+  pub view-last : (s : State) (b : List ℕ) (output : ℕ) → ViewLast (stepOf s b output .written)
   -- A used number or a view's start number is 0 for an office without a seat in the members.
-  pub seats-only : (s : State) (b : List ℕ) (room : ℕ) → Every SeatsOnly (stepOf s b room .written)
+  pub seats-only : (s : State) (b : List ℕ) (output : ℕ) → Every SeatsOnly (stepOf s b output .written)
   -- No number in a record passes L.
-  pub records-within : (s : State) (b : List ℕ) (room : ℕ) → Every RecordWithin (stepOf s b room .written)
+  pub records-within : (s : State) (b : List ℕ) (output : ℕ) → Every RecordWithin (stepOf s b output .written)
 
--- One layout.
+-- One layout, in every room.
 pub record Layout : Type 0 where
   -- A value that fits its fields comes back from its bytes,
-  pub report-back : (r : Report) → FitsReport r → decodeReport (encodeReport r) ≡ r
-  pub proposal-back : (p : Proposal) → FitsProposal p → decodeProposal (encodeProposal p) ≡ p
-  pub notice-back : (n : Notice) → FitsNotice n → decodeNotice (encodeNotice n) ≡ n
-  pub view-back : (v : View) → FitsView v → decodeView (encodeView v) ≡ v
+  pub report-back : (room : ℕ) (r : Report) → FitsReport r → decodeReport (encodeReport room r) ≡ r
+  pub proposal-back : (room : ℕ) (p : Proposal) → FitsProposal p → decodeProposal (encodeProposal room p) ≡ p
+  pub notice-back : (room : ℕ) (n : Notice) → FitsNotice n → decodeNotice (encodeNotice room n) ≡ n
+  pub view-back : (room : ℕ) (v : View) → FitsView v → decodeView (encodeView room v) ≡ v
   pub sync-back : (r : Sync) → FitsSync r → decodeSync (encodeSync r) ≡ r
   pub high-back : (h : High) → FitsHigh h → decodeHigh (encodeHigh h) ≡ h
-  -- and bytes of its mark and length come back from their value.
+  -- and its room from the same bytes;
+  pub report-room : (room : ℕ) (r : Report) → roomOf (encodeReport room r) ≡ room
+  pub proposal-room : (room : ℕ) (p : Proposal) → roomOf (encodeProposal room p) ≡ room
+  pub notice-room : (room : ℕ) (n : Notice) → roomOf (encodeNotice room n) ≡ room
+  pub view-room : (room : ℕ) (v : View) → roomOf (encodeView room v) ≡ room
+  -- bytes of its mark and length come back from their room and value.
   pub report-again : (b : List ℕ) → Below 256 b → checkOwn reportMark reportLength b ≡ 0
-      → encodeReport (decodeReport b) ≡ b
+      → encodeReport (roomOf b) (decodeReport b) ≡ b
   pub proposal-again : (b : List ℕ) → Below 256 b → checkOwn proposalMark proposalLength b ≡ 0
-      → encodeProposal (decodeProposal b) ≡ b
+      → encodeProposal (roomOf b) (decodeProposal b) ≡ b
   pub notice-again : (b : List ℕ) → Below 256 b → checkOwn noticeMark noticeLength b ≡ 0
-      → encodeNotice (decodeNotice b) ≡ b
+      → encodeNotice (roomOf b) (decodeNotice b) ≡ b
   pub view-again : (b : List ℕ) → Below 256 b → checkOwn viewMark viewLength b ≡ 0
-      → encodeView (decodeView b) ≡ b
+      → encodeView (roomOf b) (decodeView b) ≡ b
   pub sync-again : (b : List ℕ) → Below 256 b → checkOwn syncMark syncLength b ≡ 0
       → encodeSync (decodeSync b) ≡ b
   pub high-again : (b : List ℕ) → Below 256 b → checkOwn highMark highLength b ≡ 0

@@ -14,8 +14,8 @@ use Rattle.laws.specs.Upd.{ifb}
 use Rattle.seats.specs.Seats.{seatCount}
 use Rattle.seats.specs.Offices.{officeOf, serves, officesOf, countOf, lowestOf}
 use Rattle.records.specs.Fits.{FitsReport}
-use Rattle.records.specs.Numbers.{limit}
-use Rattle.records.specs.Layout.{viewMark, viewLength, syncLength, highLength, checkOf, checkOwn}
+use Rattle.records.specs.Numbers.{limit, roomCount}
+use Rattle.records.specs.Layout.{viewMark, viewLength, syncLength, highLength, roomOf, checkOwn}
 use Rattle.records.specs.Layout.{decodeView, decodeSync}
 use Rattle.records.specs.declared.Report.{Report}
 use Rattle.records.specs.declared.Proposal.{Proposal}
@@ -31,8 +31,9 @@ use Rattle.rules.specs.State.{State, zeros, usedFor}
 use Rattle.rules.specs.Rules.{Written, proposal, view, nothingWritten, fresh, restarted, hasRecipient, repeats}
 use Rattle.rules.specs.Rules.{viewOf, reportRule}
 use Rattle.rules.specs.MarkFile.{fileLimit, allHigh, lastIn, lastHigh, goodFile}
-use Rattle.rules.specs.Refusals.{wellFormed, fullRoom, aReport, eventOf, stepOf, bytesOf, allBytes, accepted}
+use Rattle.rules.specs.Refusals.{wellFormed, fullRoom, readCheck, aReport, eventOf, stepOf, allBytes, accepted}
 use Rattle.rules.specs.Refusals.{aProposal, takeOf, restartOf}
+use Rattle.rules.specs.Tables.{Table, freshTable, stepTable}
 use Rattle.rules.specs.Days.{selfUseComputed, selfUseStated}
 use Rattle.waiting.specs.declared.Waiting.the-variants as waits
 use Rattle.waiting.specs.Waiting.{waitingFor, waitingForOfAll}
@@ -43,17 +44,20 @@ use Rattle.runs.specs.World.{Item, WorldEvent, atFirst, run}
 use Rattle.runs.specs.Begins.{RestartsAbove, HasSent}
 use Rattle.runs.specs.Files.{FileTurn, FileEvent, freshKept, keptAfter, leftKept, beginsWith, turnsOf}
 use Rattle.desk_runs.specs.Sent.{sentTo, hearings}
-use Rattle.desk_runs.specs.Syncs.{syncAfter, SyncFor}
+use Rattle.desk_runs.specs.Syncs.{SyncFor}
 use Rattle.desk_runs.specs.Days.{computedDay, statedDay, seatRefusals, seatReasons}
 use Rattle.settling.specs.Statement.{Settles, SettlesAfterCuts, SettlesWithFiles}
-use Rattle.row.specs.Row.{rowLength, Row, stateOf, wordsOf, word}
+use Rattle.rooms.specs.Roomed.{ofRoom, roomBytes}
+use Rattle.rooms.specs.Server.{freshServer, serverLeft}
+use Rattle.row.specs.Row.{word}
+use Rattle.row.specs.Table.{tableLength, rowAt, tableOf, tableWords, SoundTable}
 use Rattle.row.proofs.Holds.{Holds}
 use Rattle.agree.specs.Starts.{laidOf}
-use Rattle.step.specs.Fresh.{freshRow}
-use Rattle.step.specs.Step.{stepRow}
-use Rattle.code_runs.specs.Rows.{Handed, rowSent}
-use Rattle.code_runs.specs.Kept.{RowTurn, bytesIn, rowLeft, readTurn}
-use Rattle.restart.specs.Restart.{restartRow}
+use Rattle.step.specs.Fresh.{freshWords}
+use Rattle.step.specs.Step.{stepWords}
+use Rattle.code_runs.specs.Words.{Handed, wordsSent}
+use Rattle.code_runs.specs.Kept.{WordsTurn, bytesIn, bytesLeft, readTurn}
+use Rattle.restart.specs.Restart.{restartWords}
 use Rattle.restart.specs.Caller.{callerMoves, MovesAs}
 
 -- Request 1. Who are we waiting for?
@@ -72,26 +76,28 @@ pub record Request1 : Type 0 where
 -- Request 2. Reports that change nothing.
 pub record Request2 : Type 0 where
   -- A report that leaves the net view equal to what it was is accepted and does nothing: 0 bytes, state unchanged;
-  pub repeat-step : (s : State) (r : Report) → wellFormed s ≡ true → repeats s r ≡ true → (b : List ℕ) (room : ℕ)
-      → fullRoom ≤ room → checkOf b ≡ 0 → eventOf b ≡ aReport r → stepOf s b room ≡ accepted (nothingWritten s)
+  pub repeat-step : (s : State) (r : Report) → wellFormed s ≡ true → repeats s r ≡ true → (b : List ℕ) (output : ℕ)
+      → fullRoom ≤ output → readCheck b ≡ 0 → eventOf b ≡ aReport r → stepOf s b output ≡ accepted (nothingWritten s)
   -- every word stays.
-  pub repeat-stays : (ws b : List ℕ) (room : ℕ) (r : Report) → Row ws → ((k : ℕ) → getD ws k 0 < word)
-      → wellFormed (stateOf ws) ≡ true → fullRoom ≤ room → checkOf b ≡ 0 → eventOf b ≡ aReport r
-      → repeats (stateOf ws) r ≡ true → stepRow ws b room ≡ record { refusal = 0; written = []; words = ws }
+  pub repeat-stays : (ws b : List ℕ) (output : ℕ) (r : Report) → SoundTable ws → ((k : ℕ) → getD ws k 0 < word)
+      → fullRoom ≤ output → readCheck b ≡ 0 → eventOf b ≡ aReport r → repeats (tableOf ws (roomOf b)) r ≡ true
+      → stepWords ws b output ≡ record { refusal = 0; written = []; words = ws }
   -- The last report again is such a one.
   pub again : (s : State) (r : Report) → s .net .bits < 2 ^ 64 → FitsReport r
       → repeats (reportRule s r .state) r ≡ true
 
--- Request 3. The desk's own end.
+-- Request 3. The desk's own end, in any room.
 pub record Request3 : Type 0 where
   -- A fresh seat accepts every notice and view that its fresh office sends it, also when it has left and come back,
-  pub desk-accepts : (seat : ℕ) → seat < seatCount → (hs : List Input) → Every (λ h. OfSeats (h .event)) hs
+  pub desk-accepts : (room : ℕ) → room < roomCount → (seat : ℕ) → seat < seatCount
+      → (hs : List Input) → Every (λ h. OfSeats (h .event)) hs
       → let sent = sentIn (logOf (fresh (officeOf seat)) hs) in
-      Every (λ h. h .refusal ≡ 0) (hearings (freshDesk seat) (sentTo seat sent))
+      Every (λ h. h .refusal ≡ 0) (hearings room (freshDesk seat) (sentTo seat sent))
   -- and everything that the code of its office sends it, whatever bytes the office is handed.
-  pub code-heard : (seat : ℕ) → seat < seatCount → (ws : List ℕ) → Holds ws (fresh (officeOf seat))
+  pub code-heard : (seat : ℕ) → seat < seatCount → (room : ℕ) → room < roomCount → (ws : List ℕ) → SoundTable ws
+      → tableOf ws room ≡ fresh (officeOf seat)
       → (hs : List Handed) → Every (λ (h : Handed). Below 256 (h .bytes)) hs
-      → Every (λ h. h .refusal ≡ 0) (hearings (freshDesk seat) (sentTo seat (rowSent ws hs)))
+      → Every (λ h. h .refusal ≡ 0) (hearings room (freshDesk seat) (sentTo seat (ofRoom room (wordsSent ws hs))))
   -- A seat that refuses keeps what it knew.
   pub seat-keeps : (d : Desk) (b : List ℕ) → (hearOf d b .refusal ≡ 0 → ⊥) → hearOf d b .desk ≡ d
   -- A day of seat 0, which leaves and comes back;
@@ -103,7 +109,7 @@ pub record Request3 : Type 0 where
 pub record Request4 : Type 0 where
   -- The answer is the lowest member seat whose record is missing, or the set of members whose record names the number.
   pub along-tells : (sheet shown : List ℕ) (previous : ℕ) → checkOwn viewMark viewLength shown ≡ 0
-      → firstOf (askChecks (decodeView shown) previous (length sheet)) ≡ 0 → firstBad (recordsOn sheet) ≡ 0
+      → roomOf shown < roomCount → firstOf (askChecks (decodeView shown) previous (length sheet)) ≡ 0 → firstBad (recordsOn sheet) ≡ 0
       → Tells (decodeView shown) (map decodeSync (recordsOn sheet)) previous (cameAlong sheet shown previous)
   -- If two records of a seat count, the first on the sheet does: behind it any other of that seat may stand.
   pub first-decides : (shown : List ℕ) (previous m : ℕ) (a : List ℕ) → length a ≡ m * syncLength
@@ -116,13 +122,14 @@ pub record Request4 : Type 0 where
       → (r q b : List ℕ) → GoodRecord r → GoodRecord q → (decodeSync r .seat ≡ decodeSync q .seat → ⊥)
       → cameAlong (a ++ (r ++ (q ++ b))) shown previous ≡ cameAlong (a ++ (q ++ (r ++ b))) shown previous
   -- The record that a desk makes after the last notice before a view counts for that view,
-  pub sync-counts : (seat : ℕ) → seat < seatCount → (hs : List Input) → Every (λ h. OfSeats (h .event)) hs
-      → (heard later : List Written) (v : View)
-      → sentTo seat (sentIn (logOf (fresh (officeOf seat)) hs)) ≡ heard ++ (view v ∷ later) → SyncFor seat heard v
+  pub sync-counts : (room : ℕ) → room < roomCount → (seat : ℕ) → seat < seatCount
+      → (hs : List Input) → Every (λ h. OfSeats (h .event)) hs → (heard later : List Written) (v : View)
+      → sentTo seat (sentIn (logOf (fresh (officeOf seat)) hs)) ≡ heard ++ (view v ∷ later)
+      → SyncFor room seat heard v
   -- so no desk whose record is on the sheet is told that its own is missing.
-  pub own-there : (seat : ℕ) (heard : List Written) (v : View) → SyncFor seat heard v → (sheet : List ℕ)
-      (a b : List (List ℕ)) → recordsOn sheet ≡ a ++ (syncAfter seat heard ∷ b) → (previous : ℕ)
-      → cameAlong sheet (bytesOf (view v)) previous ≡ along.Missing seat → ⊥
+  pub own-there : (seat : ℕ) (shown own : List ℕ) → counts (decodeView shown) seat (decodeSync own) ≡ true
+      → (sheet : List ℕ) (a b : List (List ℕ)) → recordsOn sheet ≡ a ++ (own ∷ b) → (previous : ℕ)
+      → cameAlong sheet shown previous ≡ along.Missing seat → ⊥
   -- The sheets of three desks,
   pub each-answer : computedAnswers ≡ statedAnswers
   -- each reason to refuse, in the order of the request,
@@ -171,10 +178,10 @@ pub record Request7 : Type 0 where
   pub own-file-length : (own : ℕ) → own < 16 → (ts : List FileTurn)
       → length (keptAfter (freshKept own) ts .file) ≤ fileLimit
   -- A seat that was fresh at first accepts all that leaves for it, over every restart of its office.
-  pub desk-accepts-again : (seat : ℕ) → seat < seatCount → (ts : List FileTurn)
+  pub desk-accepts-again : (room : ℕ) → room < roomCount → (seat : ℕ) → seat < seatCount → (ts : List FileTurn)
       → Every (λ t. OfSeats (beginsWith t .event)) ts
       → Every (λ h. h .refusal ≡ 0)
-      (hearings (freshDesk seat) (sentTo seat (leftKept (freshKept (officeOf seat)) ts)))
+      (hearings room (freshDesk seat) (sentTo seat (leftKept (freshKept (officeOf seat)) ts)))
   -- It settles, the k files empty at first, with cuts after any byte and any record: by the request's own premise,
   -- and where every last report comes after every cut.
   pub settling-with-files : (A : ℕ) (states : ℕ → State) (links : ℕ → ℕ → List Item) (files : ℕ → List ℕ)
@@ -183,40 +190,43 @@ pub record Request7 : Type 0 where
   pub settling-above : (A : ℕ) (states : ℕ → State) (links : ℕ → ℕ → List Item) (es : List WorldEvent)
       → RestartsAbove (serves A) (atFirst states links) es
       → Settles A states links es × SettlesAfterCuts A states links es
-  -- The words of a state made again hold it, every one;
-  pub restart-row : (office : ℕ) (f ws : List ℕ) → length ws ≡ rowLength
-      → Holds (restartRow office f ws .words) (restartOf office f .state)
+  -- The words of a table made again hold the state in every room;
+  pub restart-table : (office : ℕ) (f ws : List ℕ) → length ws ≡ tableLength → (room : ℕ) → room < roomCount
+      → Holds (rowAt (restartWords office f ws .words) room) (restartOf office f .state)
   -- 1 and 18 give back what 1 gives;
-  pub restart-refused : (office : ℕ) (f ws : List ℕ) → (restartRow office f ws .refusal ≡ 0 → ⊥)
-      → length ws ≡ rowLength → restartRow office f ws .words ≡ wordsOf (fresh 0)
+  pub restart-refused : (office : ℕ) (f ws : List ℕ) → (restartWords office f ws .refusal ≡ 0 → ⊥)
+      → length ws ≡ tableLength → restartWords office f ws .words ≡ tableWords (freshTable 0)
   -- words of another length stay;
-  pub restart-other : (office : ℕ) (f ws : List ℕ) → (length ws ≡ rowLength → ⊥)
-      → restartRow office f ws .words ≡ ws
+  pub restart-other : (office : ℕ) (f ws : List ℕ) → (length ws ≡ tableLength → ⊥)
+      → restartWords office f ws .words ≡ ws
   -- an empty file starts fresh.
-  pub restart-empty : (office : ℕ) (ws : List ℕ) → restartRow office [] ws ≡ freshRow office ws
+  pub restart-empty : (office : ℕ) (ws : List ℕ) → restartWords office [] ws ≡ freshWords office ws
   -- Who asks before each record of an answer, whatever the step was handed, does just what the theorems speak of: a
   -- cut after any byte or record leaves that file, and those records have left.
-  pub caller-leaves : (f : List ℕ) → goodFile f ≡ true → (out : List ℕ) → highLength ≤ length out
-      → (s : State) (b : List ℕ) (room : ℕ) → let ws = stepOf s b room .written in
-      MovesAs f ws (callerMoves f out (allBytes ws))
-  -- So of an office on words with its file, handed any bytes, lent any output for marks and cut off after any byte
-  -- written or record sent: the bytes that leave are those of records that give out no number twice,
+  pub caller-leaves : (room : ℕ) (f : List ℕ) → goodFile f ≡ true → (out : List ℕ) → highLength ≤ length out
+      → (t : Table) (b : List ℕ) (output : ℕ) → let ws = stepTable t b output .written in
+      MovesAs room f ws (callerMoves f out (allBytes room ws))
+  -- So of a server on words with its file, handed any bytes, lent any output for marks and cut off after any byte
+  -- written or record sent: the bytes that leave are those of records that give out no number twice in a room,
   pub code-numbers-once : (own : ℕ) → own < 16 → (out : List ℕ) → highLength ≤ length out → (ws : List ℕ)
-      → Holds ws (fresh own) → (ts : List RowTurn) → let l = leftKept (freshKept own) (map readTurn ts) in
-      (rowLeft own out (record { words = ws; file = [] }) ts ≡ map bytesOf l) × NumbersOnce l
+      → SoundTable ws → ((room : ℕ) → room < roomCount → tableOf ws room ≡ fresh own) → (ts : List WordsTurn)
+      → let l = serverLeft own (freshServer own) (map readTurn ts) in
+      (bytesLeft own out (record { words = ws; file = [] }) ts ≡ map roomBytes l)
+      × ((room : ℕ) → room < roomCount → NumbersOnce (ofRoom room l))
   -- which a seat that was not restarted accepts.
-  pub code-heard-again : (seat : ℕ) → seat < seatCount → (ts : List RowTurn)
-      → Every (λ t. Below 256 (bytesIn t)) ts → let l = leftKept (freshKept (officeOf seat)) (map readTurn ts) in
-      Every (λ h. h .refusal ≡ 0) (hearings (freshDesk seat) (sentTo seat l))
+  pub code-heard-again : (seat : ℕ) → seat < seatCount → (room : ℕ) → room < roomCount → (ts : List WordsTurn)
+      → Every (λ t. Below 256 (bytesIn t)) ts
+      → let l = serverLeft (officeOf seat) (freshServer (officeOf seat)) (map readTurn ts) in
+      Every (λ h. h .refusal ≡ 0) (hearings room (freshDesk seat) (sentTo seat (ofRoom room l)))
 
 -- Request 8. A proposal that claims to have used itself.
 pub record Request8 : Type 0 where
   -- 19 is given only where the used number for the sender is not below the proposal's own number,
-  pub only-self-use : (s : State) (p : Proposal) (room : ℕ) → takeOf s (aProposal p) room .refusal ≡ 19
+  pub only-self-use : (s : State) (p : Proposal) (output : ℕ) → takeOf s (aProposal p) output .refusal ≡ 19
       → p .number ≤ usedFor p (p .sender)
   -- and such a proposal is always refused.
-  pub self-use-refused : (s : State) (p : Proposal) (room : ℕ) → p .number ≤ usedFor p (p .sender)
-      → takeOf s (aProposal p) room .refusal ≡ 0 → ⊥
+  pub self-use-refused : (s : State) (p : Proposal) (output : ℕ) → p .number ≤ usedFor p (p .sender)
+      → takeOf s (aProposal p) output .refusal ≡ 0 → ⊥
   -- From a fresh or restarted state, cut off or not, at whatever numbers it begins again: every proposal that leaves
   -- has a used number for its sender below its own number,
   pub never-used : (own : ℕ) → own < 16 → (m : ℕ) (ts : List Turn) (p : Proposal)
@@ -224,7 +234,7 @@ pub record Request8 : Type 0 where
   -- so that no state of any office answers 19 to it.
   pub never-19 : (own : ℕ) → own < 16 → (m : ℕ) (ts : List Turn) (p : Proposal)
       → List·Memᴰ (proposal p) (leftOver (restarted own m) ts)
-      → (s : State) (room : ℕ) → takeOf s (aProposal p) room .refusal ≡ 19 → ⊥
+      → (s : State) (output : ℕ) → takeOf s (aProposal p) output .refusal ≡ 19 → ⊥
   -- In the world of sixteen offices the same of every proposal sent by an office that began fresh or restarted,
   -- whatever the others are and do:
   pub never-used-sent : (own : ℕ) → own < 16 → (m : ℕ) (states : ℕ → State) (links : ℕ → ℕ → List Item)
@@ -234,12 +244,13 @@ pub record Request8 : Type 0 where
   pub never-19-sent : (own : ℕ) → own < 16 → (m : ℕ) (states : ℕ → State) (links : ℕ → ℕ → List Item)
       → states own ≡ restarted own m → (es : List WorldEvent) (p : Proposal)
       → HasSent (run (atFirst states links) es) own p
-      → (s : State) (room : ℕ) → takeOf s (aProposal p) room .refusal ≡ 19 → ⊥
-  -- The same of the code: to no bytes that leave an office on words with its file, handed any bytes and cut off
-  -- anywhere, does any state answer 19.
+      → (s : State) (output : ℕ) → takeOf s (aProposal p) output .refusal ≡ 19 → ⊥
+  -- The same of the code: to no bytes that leave a server on words with its file, handed any bytes and cut off
+  -- anywhere, does any table answer 19.
   pub code-never-19 : (own : ℕ) → own < 16 → (out : List ℕ) → highLength ≤ length out → (ws : List ℕ)
-      → Holds ws (fresh own) → (ts : List RowTurn) → Every (λ t. Below 256 (bytesIn t)) ts
-      → Every (λ b. (s : State) (room : ℕ) → stepOf s b room .refusal ≡ 19 → ⊥)
-      (rowLeft own out (record { words = ws; file = [] }) ts)
+      → SoundTable ws → ((room : ℕ) → room < roomCount → tableOf ws room ≡ fresh own) → (ts : List WordsTurn)
+      → Every (λ t. Below 256 (bytesIn t)) ts
+      → Every (λ b. (t : Table) (output : ℕ) → stepTable t b output .refusal ≡ 19 → ⊥)
+      (bytesLeft own out (record { words = ws; file = [] }) ts)
   -- A used number just below, at and above the own number; 9 and 10 before 19, 19 before 11, 12 and 13.
   pub self-uses : selfUseComputed ≡ selfUseStated

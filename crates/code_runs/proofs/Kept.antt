@@ -1,191 +1,223 @@
--- An office on words with its file, cut off wherever, sends what the rules say of such an office.
-use mathlib.Core.Path.{_≡_, refl, sym, ap, subst, _∙_}
-use mathlib.Core.Logic.{_⊎_, inl, inr}
-use mathlib.Core.List.{List, [], _∷_, map, map-append, List·Memᴰ}
+-- A server on words with its file, cut off wherever, sends what the rules say of such a server; so in each room no
+-- number twice, and nothing that a seat refuses or any office answers by 19.
+use mathlib.Core.Path.{_≡_, refl, sym, ap, _∙_}
+use mathlib.Core.Bool.{Bool, true, false}
+use mathlib.Core.List.{List, [], _∷_, map, map-append}
 use Prim.Native.Nat.{ℕ, _≤_, _<_}
 use native.Mathlib.Omega.{arith}
 use native.Mathlib.Decide.{ℕ-discrete}
 use lib.ListN.{length, take}
+use lib.Dec.{eqb}
 use borrow.Author.Tests.{ne-eqb}
 use Rattle.laws.specs.Big.{Below}
 use Rattle.laws.specs.Lists.{Every, none, more}
-use Rattle.laws.proofs.Lists.{every-mapped, every-in}
+use Rattle.laws.proofs.Fin.{if-cases}
 use Rattle.seats.specs.Seats.{seatCount}
 use Rattle.seats.specs.Offices.{officeOf}
-use Rattle.records.specs.Layout.{highLength, checkOf}
-use Rattle.rules.specs.State.{State, usedFor}
-use Rattle.records.specs.Fits.{FitsProposal}
-use Rattle.records.specs.declared.Proposal.{Proposal}
-use Rattle.rules.specs.Rules.{Written, proposal, fresh}
-use Rattle.rules.specs.Refusals.{bytesOf, Result, takeOf, stepOf, restartOf}
-use Rattle.rules.specs.Leaving.{Action, actionsOf, fileAfter, leftIn}
-use Rattle.rule_laws.proofs.Parts.{fresh-restarted}
-use Rattle.rule_laws.proofs.SelfUse.{written-never-19}
-use Rattle.rule_laws.proofs.Steps.{Refused, Takes, take-cases, step-takes, step-skips}
-use Rattle.runs.specs.Office.{OfSeats, answerTo, Turn, leftOver}
-use Rattle.runs.specs.Files.{KeptOffice, acts, cutAfter, done, restartAfter, nextKept, freshKept, leftKept, beginsWith}
-use Rattle.runs.specs.Files.{FileTurn, turnsOf}
-use Rattle.runs.proofs.FilesOnce.{WellKept, kept-passes, kept-next, fresh-kept, kept-turns, kept-handed}
-use Rattle.runs.proofs.OfficeFits.{read-fits, left-fits}
-use Rattle.runs.proofs.OfficeUsed.{never-used}
+use Rattle.records.specs.Numbers.{roomCount}
+use Rattle.records.specs.Layout.{highLength, roomOf}
+use Rattle.rules.specs.Rules.{Written, fresh}
+use Rattle.rules.specs.MarkFile.{goodFile}
+use Rattle.rules.specs.Leaving.{Action, actionsOf, leftIn}
+use Rattle.rules.specs.Refusals.{readCheck, bytesOf, restartOf, eventOf}
+use Rattle.rules.specs.Tables.{Table, wellTable, restartTable, TableResult, barred, takeTable}
+use Rattle.rule_laws.proofs.Leaving.{order-passes}
+use Rattle.rule_laws.proofs.TableSteps.{step-table-takes}
+use Rattle.runs.specs.Office.{OfSeats}
+use Rattle.runs.proofs.OfficeFits.{read-fits}
+use Rattle.rooms.specs.Roomed.{Roomed, roomed, ofRoom, roomBytes}
+use Rattle.rooms.specs.Handing.{answerTable, inputOf}
+use Rattle.rooms.specs.Server.{Server, servesAll, stopsAfter, servedAt, doneBy, fileBy, nextServer, freshServer}
+use Rattle.rooms.specs.Server.{serverLeft}
+use Rattle.rooms.proofs.Server.{WellServed, well-after, fresh-served}
 use Rattle.desk.specs.Hearing.{freshDesk}
+use Rattle.desk.specs.Rooms.{freshRooms}
 use Rattle.desk_runs.specs.Sent.{sentTo, hearings}
-use Rattle.desk_runs.proofs.Turns.{files-accepted}
-use Rattle.row.specs.Row.{Row, stateOf}
-use Rattle.row.proofs.Holds.{Holds}
+use Rattle.desk_runs.specs.Rooms.{roomsHearings}
+use Rattle.desk_runs.specs.RoomsSent.{sentToDesk}
+use Rattle.desk_runs.proofs.RoomsRuns.{left-alone, desk-accepts-with-cuts}
+use Rattle.row.specs.Table.{tableOf, SoundTable}
+use Rattle.row.proofs.Tables.{sound-is, sound-length}
 use Rattle.restart.specs.Caller.{moveOf, sentBy}
-use Rattle.restart.specs.Restart.{restartRow}
-use Rattle.restart.proofs.Caller.{take-leaves, take-moves, filed-as, sent-as}
-use Rattle.restart.proofs.RestartRows.{restart-holds}
-use Rattle.code_runs.specs.Rows.{Handed, rowAnswer}
-use Rattle.code_runs.specs.Kept.{RowKept, RowTurn, handed, cutWhile, movesFor, movesAt, fileAt, nextRow, rowLeft}
-use Rattle.code_runs.specs.Kept.{bytesIn, noEvent, inputOf, readTurn}
-use Rattle.code_runs.proofs.Runs.{held, wrote}
+use Rattle.restart.proofs.Caller.{table-leaves, take-moves, filed-as, sent-as}
+use Rattle.restart.proofs.RestartTables.{restart-holds, restart-sound}
+use Rattle.code_runs.specs.Words.{Handed, wordsAnswer}
+use Rattle.code_runs.specs.Kept.{WordsKept, WordsTurn, handed, cutWhile, bytesIn, movesFor, movesAt, fileAt}
+use Rattle.code_runs.specs.Kept.{nextKept, bytesLeft, emptyReport, readHanded, readTurn}
+use Rattle.code_runs.proofs.Answers.{table-skips, wrote, held, still-sound}
+use Rattle.code_runs.proofs.Agreeing.{Agree, take-agree}
 
--- a report without output room does nothing
-nothing-done : (s : State) → (answerTo s noEvent .state ≡ s) × (answerTo s noEvent .written ≡ [])
-unfolding answerTo
-nothing-done s = go (take-cases s (noEvent .event) 0)
+-- a report without output does nothing
+nothing-done : (t : Table) (room : ℕ) → let q = takeTable t (record { room = room; what = emptyReport }) 0 in
+    (q .table ≡ t) × (q .written ≡ [])
+unfolding takeTable barred
+nothing-done t room = go (wellTable t) refl
   where
-    go : Refused s (takeOf s (noEvent .event) 0) ⊎ Takes s (noEvent .event) 0
-        → (takeOf s (noEvent .event) 0 .state ≡ s) × (takeOf s (noEvent .event) 0 .written ≡ [])
-    go (inl r) = (ap (λ (q : Result). q .state) (r .is), ap (λ (q : Result). q .written) (r .is))
-    go (inr t) = let f = t .fits in absurd (omega arith)
+    go : (w : Bool) → wellTable t ≡ w → let q = takeTable t (record { room = room; what = emptyReport }) 0 in
+        (q .table ≡ t) × (q .written ≡ [])
+    go true w = rw w (refl, refl)
+    go false w = rw w (refl, refl)
 
--- what the step makes of bytes is what the rules make of the input
-module _ (ws : List ℕ) (h : Handed) (r : Row ws) where
-  answers : Holds (rowAnswer ws h .words) (answerTo (stateOf ws) (inputOf h) .state)
-      × (rowAnswer ws h .written ≡ answerTo (stateOf ws) (inputOf h) .written)
-  unfolding answerTo
-  answers = go (ℕ-discrete (checkOf (h .bytes)) 0)
+-- what the step makes of bytes is what the rules make of the event, where the words hold the rooms of the table
+module _ (ws : List ℕ) (s : SoundTable ws) (t : Table) (a : Agree (tableOf ws) t) (h : Handed) where
+  abbrev answer : TableResult
+  answer = answerTable t (readHanded h)
+
+  record Answers : Type 0 where
+    written : wordsAnswer ws h .written ≡ answer .written
+    table : Agree (tableOf (wordsAnswer ws h .words)) (answer .table)
+
+  answers : Answers
+  unfolding answerTable
+  answers = go (ℕ-discrete (readCheck (h .bytes)) 0)
     where
-      go : Dec (checkOf (h .bytes) ≡ 0) → Holds (rowAnswer ws h .words) (answerTo (stateOf ws) (inputOf h) .state)
-          × (rowAnswer ws h .written ≡ answerTo (stateOf ws) (inputOf h) .written)
+      b : List ℕ
+      b = h .bytes
+
+      go : Dec (readCheck (h .bytes) ≡ 0) → Answers
       go (yes z) =
-          let t = step-takes (stateOf ws) (h .bytes) (h .room) z in
-          let a = held ws h r in
-          rw z ((a .0, a .1 ∙ ap (λ (q : Result). q .state) t), wrote ws h r ∙ ap (λ (q : Result). q .written) t)
+          let e = step-table-takes (tableOf ws) b (h .output) z in
+          let x = take-agree (tableOf ws) t a (record { room = roomOf b; what = eventOf b }) (h .output) in
+          record {
+            written = rw z (wrote ws h (sound-is ws s) ∙ ap (λ (q : TableResult). q .written) e ∙ x .written);
+            table = λ room l. rw z (ap (λ (q : Table). q room) (held ws h (sound-is ws s) .1)
+                ∙ ap (λ (q : TableResult). q .table room) e ∙ x .table room l);
+          }
       go (no n) =
-          let t = step-skips (stateOf ws) (h .bytes) (h .room) n in
-          let a = held ws h r in
-          let d = nothing-done (stateOf ws) in
-          rw (ne-eqb (checkOf (h .bytes)) 0 n, d .0, d .1) ((a .0, a .1 ∙ t .0), wrote ws h r ∙ t .1)
+          let e = table-skips (tableOf ws) b (h .output) n in
+          let q = ne-eqb (readCheck b) 0 n in
+          let nothing = nothing-done t (roomOf b) in
+          record {
+            written = rw (q, nothing .1) (wrote ws h (sound-is ws s) ∙ e .1);
+            table = λ room l. rw (q, nothing .0)
+                (ap (λ (q : Table). q room) (held ws h (sound-is ws s) .1 ∙ e .0) ∙ a room l);
+          }
 
-input-fits : (h : Handed) → Below 256 (h .bytes) → OfSeats (inputOf h .event)
-input-fits h b = go (ℕ-discrete (checkOf (h .bytes)) 0)
-  where
-    go : Dec (checkOf (h .bytes) ≡ 0) → OfSeats (inputOf h .event)
-    go (yes z) = rw z (read-fits (h .bytes) b)
-    go (no n) = rw (ne-eqb (checkOf (h .bytes)) 0 n) (record { joining = omega arith; leaving = omega arith })
+roomed-bytes : (room : ℕ) (l : List Written) → map roomBytes (roomed room l) ≡ map (bytesOf room) l
+roomed-bytes room [] = refl
+roomed-bytes room (w ∷ l) = rw (roomed-bytes room l)
 
-module _ (own : ℕ) (lt : own < 16) (out : List ℕ) (room : highLength ≤ length out) where
-  -- words and file hold the office's state and file
-  record Alike (k : RowKept) (q : KeptOffice) (l : List Written) : Type 0 where
-    holds : Holds (k .words) (q .state)
+first : 0 < roomCount
+first = omega arith
+
+module _ (own : ℕ) (lt : own < 16) (out : List ℕ) (fits : highLength ≤ length out) where
+  -- words and file hold the server's rooms and file
+  record Alike (k : WordsKept) (q : Server) (l : List (Roomed Written)) : Type 0 where
+    sound : SoundTable (k .words)
+    rooms : Agree (tableOf (k .words)) (q .table)
     file : k .file ≡ q .file
-    kept : WellKept own lt q l
+    kept : WellServed own lt 0 first q l
 
-  module _ (k : RowKept) (q : KeptOffice) (l : List Written) (s : Alike k q l) where
-    given : (h : Handed) → Holds (rowAnswer (k .words) h .words) (answerTo (q .state) (inputOf h) .state)
-        × (rowAnswer (k .words) h .written ≡ answerTo (q .state) (inputOf h) .written)
-    given h = rw (s .holds .1) at (answers (k .words) h (s .holds .0))
+  module _ (k : WordsKept) (q : Server) (l : List (Roomed Written)) (s : Alike k q l) where
+    given : (h : Handed) → Answers (k .words) (s .sound) (q .table) (s .rooms) h
+    given = answers (k .words) (s .sound) (q .table) (s .rooms)
+
+    good : goodFile (q .file) ≡ true
+    good = order-passes _ (s .kept .covers .order)
 
     abbrev acted : Handed → List Action
-    acted h = actionsOf (q .file) (answerTo (q .state) (inputOf h) .written)
+    acted h = actionsOf (q .file) (answerTable (q .table) (readHanded h) .written)
 
-    moves : (h : Handed) → movesFor own out k h ≡ map moveOf (acted h)
-    unfolding movesFor answerTo
+    moves : (h : Handed) → movesFor own out k h ≡ map (moveOf (roomOf (h .bytes))) (acted h)
+    unfolding movesFor
     moves h =
-        rw (given h .1, s .file)
-        (take-leaves (q .file) (kept-passes own lt q l (s .kept)) out room (q .state) (inputOf h .event)
-        (inputOf h .room) .moves)
+        let room = roomOf (h .bytes) in
+        let w = wrote (k .words) h (sound-is _ (s .sound)) in
+        let m = table-leaves room (q .file) good out fits (tableOf (k .words)) (h .bytes) (h .output) .moves in
+        rw (s .file, w) (m ∙ ap (λ (ws : List Written). map (moveOf room) (actionsOf (q .file) ws))
+        (sym w ∙ given h .written))
 
     -- the moves of a turn are its actions
-    at-turn : (t : RowTurn) → movesAt own out k t ≡ map moveOf (done q (readTurn t))
-    unfolding movesAt done
+    at-turn : (t : WordsTurn) → movesAt own out k t ≡ map (moveOf (roomOf (bytesIn t))) (doneBy q (readTurn t))
+    unfolding movesAt doneBy
     at-turn (handed h) = moves h
-    at-turn (cutWhile h n) = ap (take n) (moves h) ∙ take-moves n (acted h)
+    at-turn (cutWhile h n) = ap (take n) (moves h) ∙ take-moves (roomOf (h .bytes)) n (acted h)
 
-    file-at : (t : RowTurn) → fileAt own out k t ≡ fileAfter (q .file) (done q (readTurn t))
-    file-at t = rw (at-turn t, s .file) (filed-as (q .file) (done q (readTurn t)))
+    file-at : (t : WordsTurn) → fileAt own out k t ≡ fileBy q (readTurn t)
+    file-at t = rw (at-turn t, s .file) (filed-as (roomOf (bytesIn t)) (q .file) (doneBy q (readTurn t)))
 
-    left-at : (t : RowTurn) → sentBy (movesAt own out k t) ≡ map bytesOf (leftIn (done q (readTurn t)))
-    left-at t = rw (at-turn t) (sent-as (done q (readTurn t)))
+    left-by : (t : WordsTurn)
+        → sentBy (movesAt own out k t) ≡ map roomBytes (roomed (roomOf (bytesIn t)) (leftIn (doneBy q (readTurn t))))
+    left-by t =
+        let room = roomOf (bytesIn t) in
+        let done = doneBy q (readTurn t) in
+        rw (at-turn t) (sent-as room done ∙ sym (roomed-bytes room (leftIn done)))
 
-    next-same : (t : RowTurn) → (m : List Written) × Alike (nextRow own out k t) (nextKept q (readTurn t)) m
-    unfolding nextKept restartAfter
-    next-same (handed h) =
-        let w = kept-next own lt q l (s .kept) (acts (inputOf h)) in
-        (w .0, record { holds = given h .0; file = file-at (handed h); kept = w .1 })
-    next-same (cutWhile h n) =
-        let w = kept-next own lt q l (s .kept) (cutAfter (inputOf h) n) in
-        let e = file-at (cutWhile h n) in
+    left-at : (t : WordsTurn) → let u = readTurn t in
+        sentBy (movesAt own out k t) ≡ map roomBytes (roomed (servedAt u .event .room) (leftIn (doneBy q u)))
+    left-at (handed h) = left-by (handed h)
+    left-at (cutWhile h n) = left-by (cutWhile h n)
+
+    next-alike : (t : WordsTurn)
+        → (m : List (Roomed Written)) × Alike (nextKept own out k t) (nextServer own q (readTurn t)) m
+    unfolding nextServer
+    next-alike (handed h) = (
+      _,
+      record {
+        sound = still-sound (k .words) h (s .sound);
+        rooms = given h .table;
+        file = file-at (handed h);
+        kept = well-after own lt 0 first q l (s .kept) (servesAll (readHanded h));
+      },
+    )
+    next-alike (cutWhile h n) =
         let g = fileAt own out k (cutWhile h n) in
-        let ws = restartRow own g (k .words) .words in
-        let f = fileAfter (q .file) (done q (cutAfter (inputOf h) n)) in
-        let x : Holds ws (restartOf own f .state)
-        = subst (λ (f : List ℕ). Holds ws (restartOf own f .state)) e
-        (restart-holds own g (k .words) (s .holds .0 .long)) in
-        let y = subst (λ (o : ℕ). Holds ws (restartOf o f .state)) (sym (s .kept .is-own)) x in
-        (w .0, record { holds = y; file = e; kept = w .1 })
+        let long = sound-length _ (s .sound) in
+        let e = file-at (cutWhile h n) in (
+          _,
+          record {
+            sound = restart-sound own g (k .words) long;
+            rooms = λ room b. restart-holds own g (k .words) long room b .1
+                ∙ (unfold restartTable in ap (λ (f : List ℕ). restartOf own f .state) e);
+            file = e;
+            kept = well-after own lt 0 first q l (s .kept) (stopsAfter (readHanded h) n);
+          },
+        )
 
-  row-left : (k : RowKept) (q : KeptOffice) (l : List Written) → Alike k q l → (ts : List RowTurn)
-      → rowLeft own out k ts ≡ map bytesOf (leftKept q (map readTurn ts))
-  unfolding rowLeft leftKept
-  row-left k q l s [] = refl
-  row-left k q l s (t ∷ ts) =
-      let n = next-same k q l s t in
+  kept-left : (k : WordsKept) (q : Server) (l : List (Roomed Written)) → Alike k q l → (ts : List WordsTurn)
+      → bytesLeft own out k ts ≡ map roomBytes (serverLeft own q (map readTurn ts))
+  unfolding bytesLeft serverLeft
+  kept-left k q l s [] = refl
+  kept-left k q l s (t ∷ ts) =
+      let n = next-alike k q l s t in
       let u = readTurn t in
-      rw (left-at k q l s t, row-left (nextRow own out k t) (nextKept q u) (n .0) (n .1) ts)
-      (sym (map-append bytesOf (leftIn (done q u)) (leftKept (nextKept q u) (map readTurn ts))))
+      rw (left-at k q l s t, kept-left (nextKept own out k t) (nextServer own q u) (n .0) (n .1) ts)
+      (sym (map-append roomBytes (roomed (servedAt u .event .room) (leftIn (doneBy q u))) _))
 
-  -- from words that hold the fresh state, and an empty file
-  pub code-left : (ws : List ℕ) → Holds ws (fresh own) → (ts : List RowTurn)
-      → rowLeft own out (record { words = ws; file = [] }) ts
-      ≡ map bytesOf (leftKept (freshKept own) (map readTurn ts))
-  code-left ws h =
-      row-left (record { words = ws; file = [] }) (freshKept own) []
-      (record { holds = h; file = refl; kept = fresh-kept own lt })
+  -- from words that hold the fresh state in every room, and an empty file
+  pub code-left : (ws : List ℕ) → SoundTable ws → ((room : ℕ) → room < roomCount → tableOf ws room ≡ fresh own)
+      → (ts : List WordsTurn)
+      → bytesLeft own out (record { words = ws; file = [] }) ts
+      ≡ map roomBytes (serverLeft own (freshServer own) (map readTurn ts))
+  code-left ws s f =
+      kept-left (record { words = ws; file = [] }) (freshServer own) []
+      (record { sound = s; rooms = f; file = refl; kept = fresh-served own lt 0 first })
 
 -- every set handed in is a set of seats
-turn-fits : (t : RowTurn) → Below 256 (bytesIn t) → OfSeats (beginsWith (readTurn t) .event)
-turn-fits (handed h) b = input-fits h b
-turn-fits (cutWhile h n) b = input-fits h b
+handed-fits : (h : Handed) → Below 256 (h .bytes) → OfSeats (readHanded h .event .what)
+handed-fits h b =
+    if-cases OfSeats (eqb (readCheck (h .bytes)) 0) (eventOf (h .bytes)) emptyReport (λ e. read-fits (h .bytes) b)
+    (λ e. record { joining = omega arith; leaving = omega arith })
 
-turns-fit : (ts : List RowTurn) → Every (λ t. Below 256 (bytesIn t)) ts
-    → Every (λ t. OfSeats (beginsWith t .event)) (map readTurn ts)
+turn-fits : (t : WordsTurn) → Below 256 (bytesIn t) → OfSeats (inputOf (servedAt (readTurn t)) .event)
+turn-fits (handed h) b = handed-fits h b
+turn-fits (cutWhile h n) b = handed-fits h b
+
+pub turns-fit : (ts : List WordsTurn) → Every (λ t. Below 256 (bytesIn t)) ts
+    → Every (λ u. OfSeats (inputOf (servedAt u) .event)) (map readTurn ts)
 turns-fit [] none = none
 turns-fit (t ∷ ts) (more b e) = more (turn-fits t b) (turns-fit ts e)
 
--- what leaves is heard by a seat that was not restarted
-pub kept-heard : (seat : ℕ) → seat < seatCount → (ts : List RowTurn) → Every (λ t. Below 256 (bytesIn t)) ts
-    → Every (λ h. h .refusal ≡ 0)
-    (hearings (freshDesk seat) (sentTo seat (leftKept (freshKept (officeOf seat)) (map readTurn ts))))
-kept-heard seat lt ts e = files-accepted seat lt (map readTurn ts) (turns-fit ts e)
+-- what leaves in a room is heard by a seat that was not restarted
+pub kept-heard : (seat : ℕ) → seat < seatCount → (room : ℕ) → room < roomCount → (ts : List WordsTurn)
+    → Every (λ t. Below 256 (bytesIn t)) ts
+    → let l = serverLeft (officeOf seat) (freshServer (officeOf seat)) (map readTurn ts) in
+    Every (λ h. h .refusal ≡ 0) (hearings room (freshDesk seat) (sentTo seat (ofRoom room l)))
+kept-heard seat lt room l ts e = left-alone seat lt (map readTurn ts) (turns-fit ts e) room l
 
--- and to no bytes that leave does any office answer 19
-pub code-never-19 : (own : ℕ) → own < 16 → (out : List ℕ) → highLength ≤ length out → (ws : List ℕ)
-    → Holds ws (fresh own) → (ts : List RowTurn) → Every (λ t. Below 256 (bytesIn t)) ts
-    → Every (λ b. (s : State) (room : ℕ) → stepOf s b room .refusal ≡ 19 → ⊥)
-    (rowLeft own out (record { words = ws; file = [] }) ts)
-code-never-19 own lt out long ws h ts e =
-    rw (code-left own lt out long ws h ts)
-    (every-mapped bytesOf (every-in left (λ w i s room. written-never-19 s w room
-    (λ p q. good p (subst (λ (x : Written). List·Memᴰ x left) q i)))))
-  where
-    fs : List FileTurn
-    fs = map readTurn ts
-
-    left : List Written
-    left = leftKept (freshKept own) fs
-
-    us : List Turn
-    us = turnsOf (freshKept own) fs
-
-    good : (p : Proposal) → List·Memᴰ (proposal p) left → FitsProposal p × (usedFor p (p .sender) < p .number)
-    good p i =
-        let j = subst (λ (q : State). List·Memᴰ (proposal p) (leftOver q us)) (fresh-restarted own)
-        (subst (List·Memᴰ (proposal p)) (kept-turns own lt fs .0) i) in (
-          left-fits own lt 0 us (kept-handed (λ h. OfSeats (h .event)) (freshKept own) fs (turns-fit ts e)) p j,
-          never-used own lt 0 us p j,
-        )
+-- and in all rooms, as they come, by a desk that was not restarted
+pub kept-heard-in-rooms : (seat : ℕ) → seat < seatCount → (ts : List WordsTurn)
+    → Every (λ t. Below 256 (bytesIn t)) ts
+    → let l = serverLeft (officeOf seat) (freshServer (officeOf seat)) (map readTurn ts) in
+    Every (λ h. h .refusal ≡ 0) (roomsHearings (freshRooms seat) (map roomBytes (sentToDesk seat l)))
+kept-heard-in-rooms seat lt ts e = desk-accepts-with-cuts seat lt (map readTurn ts) (turns-fit ts e)

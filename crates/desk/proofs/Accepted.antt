@@ -9,13 +9,14 @@ use Rattle.laws.specs.Checks.{firstOf}
 use Rattle.laws.proofs.Fin.{or-out}
 use Rattle.seats.specs.Seats.{seatCount, containsOf}
 use Rattle.seats.specs.Offices.{serves}
-use Rattle.records.specs.Numbers.{limit}
+use Rattle.records.specs.Numbers.{limit, roomCount}
 use Rattle.records.proofs.NumberLaws.{none-above, stray-in}
 use Rattle.records.specs.Layout.{encodeNotice, encodeView}
 use Rattle.records.specs.Fits.{FitsNotice, FitsView}
 use Rattle.records.specs.declared.Notice.{Notice}
 use Rattle.records.specs.declared.View.{View}
-use Rattle.records.proofs.RoundTrip.{notice-back, notice-passes, view-back, view-passes}
+use Rattle.records.proofs.RoundTrip.{notice-back, notice-room, notice-passes, view-back, view-room}
+use Rattle.records.proofs.RoundTrip.{view-passes}
 use Rattle.desk.specs.declared.checks.Desk.{Desk}
 use Rattle.desk.specs.Views.{startFor}
 use Rattle.desk.specs.SeatChecks.{aNotice, aView, seatAbove, tooHigh, lacksSeat, seatChecks}
@@ -63,17 +64,22 @@ module _ (d : Desk) (s : SoundDesk d) where
       (rw (t .changing, eq-eqb (startFor v (d .seat)) (d .start) (t .own)))
       (lt-leb (v .number) (d .start) (t .above)))
 
-  pub notice-heard : (n : Notice) → FitsNotice n → TakesNotice d n
-      → hearOf d (encodeNotice n) ≡ record { refusal = 0; desk = afterRecord d (aNotice n) }
-  notice-heard n f t =
-      let c = notice-passes n in
-      let r = by-notice (encodeNotice n) (λ e. let z = sym c ∙ e in omega arith) in
-      rw (notice-back n f) at
-      (hear-accepted d (encodeNotice n) (s .seat) r c (rw (notice-back n f) (notice-accepted n t)))
+  -- in any of the eight rooms
+  module _ (room : ℕ) (in-room : room < roomCount) where
+    pub notice-heard : (n : Notice) → FitsNotice n → TakesNotice d n
+        → hearOf d (encodeNotice room n) ≡ record { refusal = 0; desk = afterRecord d (aNotice n) }
+    notice-heard n f t =
+        let c = notice-passes room n in
+        let r = by-notice (encodeNotice room n) (λ e. let z = sym c ∙ e in omega arith) in
+        rw (notice-back room n f) at
+        (hear-accepted d (encodeNotice room n) (s .seat) r c
+        (rw (notice-room room n) (lt-leb roomCount room in-room)) (rw (notice-back room n f) (notice-accepted n t)))
 
-  pub view-heard : (v : View) → FitsView v → TakesView d v
-      → hearOf d (encodeView v) ≡ record { refusal = 0; desk = afterRecord d (aView v) }
-  view-heard v f t =
-      let c = view-passes v f in
-      let r = by-view (encodeView v) (other-mark (encodeView v) c) in
-      rw (view-back v f) at (hear-accepted d (encodeView v) (s .seat) r c (rw (view-back v f) (view-accepted v t)))
+    pub view-heard : (v : View) → FitsView v → TakesView d v
+        → hearOf d (encodeView room v) ≡ record { refusal = 0; desk = afterRecord d (aView v) }
+    view-heard v f t =
+        let c = view-passes room v f in
+        let r = by-view (encodeView room v) (other-mark (encodeView room v) c) in
+        rw (view-back room v f) at
+        (hear-accepted d (encodeView room v) (s .seat) r c
+        (rw (view-room room v) (lt-leb roomCount room in-room)) (rw (view-back room v f) (view-accepted v t)))

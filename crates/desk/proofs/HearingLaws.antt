@@ -1,5 +1,7 @@
--- making and hearing: what a seat answers at each exit: 6; 4 and 5; a reason of the record; an accepted record.
+-- making and hearing: what a seat answers at each exit: 6; 4 and 5; 20; a reason of the record; an accepted
+-- record.
 use mathlib.Core.Path.{_≡_, refl}
+use mathlib.Core.Bool.{true, false}
 use mathlib.Core.List.{List}
 use Prim.Native.Nat.{ℕ, _≤_, _<_}
 use native.Mathlib.Omega.{arith}
@@ -7,8 +9,9 @@ use native.Mathlib.Decide.{ℕ-discrete}
 use borrow.Author.Tests.{le-leb, lt-leb, ne-eqb}
 use Rattle.laws.specs.Checks.{firstOf}
 use Rattle.seats.specs.Seats.{seatCount}
-use Rattle.records.specs.Layout.{noticeMark, noticeLength, viewMark, viewLength, checkFor, checkOwn, decodeNotice}
-use Rattle.records.specs.Layout.{decodeView}
+use Rattle.records.specs.Numbers.{roomAbove}
+use Rattle.records.specs.Layout.{noticeMark, noticeLength, viewMark, viewLength, checkFor, checkOwn, roomOf}
+use Rattle.records.specs.Layout.{decodeNotice, decodeView}
 use Rattle.records.proofs.CheckLaws.{own-mark}
 use Rattle.records.proofs.OwnChecks.{by-first, by-second}
 use Rattle.desk.specs.declared.checks.Desk.{Desk}
@@ -25,9 +28,10 @@ module _ (seat : ℕ) where
   unfolding madeDesk
   seat-0 l = rw (lt-leb seatCount seat l)
 
--- bytes by checks 4 and 5, and the record that they are where those pass
-pub record SeatRead (b : List ℕ) (n : ℕ) (t : SeatRecord) : Type 0 where
+-- bytes by checks 4 and 5, and the room and the record that they are where those pass
+pub record SeatRead (b : List ℕ) (n room : ℕ) (t : SeatRecord) : Type 0 where
   pub number : checkSeatRecord b ≡ n
+  pub in-room : n ≡ 0 → roomOf b ≡ room
   pub is : n ≡ 0 → seatRecordOf b ≡ t
 
 module _ (b : List ℕ) where
@@ -37,17 +41,19 @@ module _ (b : List ℕ) where
   abbrev viewCheck : ℕ
   viewCheck = checkOwn viewMark viewLength b
 
-  pub by-notice : (noticeCheck ≡ 4 → ⊥) → SeatRead b noticeCheck (aNotice (decodeNotice b))
+  pub by-notice : (noticeCheck ≡ 4 → ⊥) → SeatRead b noticeCheck (roomOf b) (aNotice (decodeNotice b))
   unfolding seatRecordOf
   by-notice h = record {
     number = by-first noticeMark noticeLength viewMark viewLength b h;
+    in-room = λ z. refl;
     is = λ z. rw (own-mark noticeMark noticeLength b z);
   }
 
-  pub by-view : noticeCheck ≡ 4 → SeatRead b viewCheck (aView (decodeView b))
+  pub by-view : noticeCheck ≡ 4 → SeatRead b viewCheck (roomOf b) (aView (decodeView b))
   unfolding seatRecordOf
   by-view h = record {
     number = by-second noticeMark noticeLength viewMark viewLength b (omega arith) h;
+    in-room = λ z. refl;
     is = λ z. rw (own-mark viewMark viewLength b z);
   }
 
@@ -61,20 +67,36 @@ module _ (d : Desk) (b : List ℕ) where
   unfolding hearOf hearChecks
   hear-6 l = rw (le-leb seatCount (d .seat) l)
 
-  module _ (seat : d .seat < seatCount) {n : ℕ} {t : SeatRecord} (read : SeatRead b n t) where
+  module _ (seat : d .seat < seatCount) {n room : ℕ} {t : SeatRecord} (read : SeatRead b n room t) where
     pub hear-unread : (n ≡ 0 → ⊥) → hearOf d b ≡ record { refusal = n; desk = d }
     unfolding hearOf hearChecks
     hear-unread h = rw (lt-leb seatCount (d .seat) seat, read .number, ne-eqb n 0 h, ne-eqb n 0 h)
 
     module _ (z : n ≡ 0) where
-      pub hear-refused : (m : ℕ) → m ≡ firstOf (seatChecks d t) → (m ≡ 0 → ⊥)
-          → hearOf d b ≡ record { refusal = m; desk = d }
+      pub hear-20 : roomAbove room ≡ true → hearOf d b ≡ record { refusal = 20; desk = d }
       unfolding hearOf hearChecks
-      hear-refused m e h = rw (lt-leb seatCount (d .seat) seat, read .number, z, read .is z, ← e, ne-eqb m 0 h)
+      hear-20 a = rw (lt-leb seatCount (d .seat) seat, read .number, z, read .in-room z, a)
 
-      pub hear-accepted : firstOf (seatChecks d t) ≡ 0 → hearOf d b ≡ record { refusal = 0; desk = afterRecord d t }
-      unfolding hearOf hearChecks
-      hear-accepted e = rw (lt-leb seatCount (d .seat) seat, read .number, z, read .is z, e)
+      module _ (low : roomAbove room ≡ false) where
+        pub hear-refused : (m : ℕ) → m ≡ firstOf (seatChecks d t) → (m ≡ 0 → ⊥)
+            → hearOf d b ≡ record { refusal = m; desk = d }
+        unfolding hearOf hearChecks
+        hear-refused m e h =
+            rw (
+              lt-leb seatCount (d .seat) seat,
+              read .number,
+              z,
+              read .in-room z,
+              low,
+              read .is z,
+              ← e,
+              ne-eqb m 0 h,
+            )
+
+        pub hear-accepted : firstOf (seatChecks d t) ≡ 0
+            → hearOf d b ≡ record { refusal = 0; desk = afterRecord d t }
+        unfolding hearOf hearChecks
+        hear-accepted e = rw (lt-leb seatCount (d .seat) seat, read .number, z, read .in-room z, low, read .is z, e)
 
 -- a refusal leaves the state as it was
 pub refusal-keeps : (d : Desk) (b : List ℕ) → (hearOf d b .refusal ≡ 0 → ⊥) → hearOf d b .desk ≡ d

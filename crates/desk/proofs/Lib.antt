@@ -7,3 +7,5 @@ pub mod Accepted
 pub mod Taken
 -- syncing
 pub mod SyncLaws
+-- a desk with its rooms
+pub mod RoomsLaws

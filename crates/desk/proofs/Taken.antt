@@ -1,5 +1,5 @@
--- hearing: what a seat that has accepted a view tells: its own numbers are sound, a change was open with the view's
--- start number, and it is closed then.
+-- hearing: what a seat that has accepted a record tells: the room is one of the eight; of a view: its own numbers are
+-- sound, a change was open with the view's start number, and it is closed then.
 use mathlib.Core.Path.{_≡_, sym, _∙_}
 use mathlib.Core.Bool.{true, false, not}
 use mathlib.Core.List.{List, _∷_}
@@ -8,12 +8,12 @@ use native.Mathlib.Omega.{arith}
 use native.Mathlib.Decide.{ℕ-discrete}
 use borrow.Author.Tests.{leb-false, ltb-false, eqb-true, ne-eqb, not-false}
 use lib.Dec.{ltb, leb}
-use Rattle.laws.specs.Checks.{numbered, firstOf}
+use Rattle.laws.specs.Checks.{Check, numbered, firstOf}
 use Rattle.laws.proofs.Checks.{first-none, no-reason}
 use Rattle.laws.proofs.Fin.{or-l, or-r}
 use Rattle.seats.specs.Seats.{seatCount}
-use Rattle.records.specs.Numbers.{limit}
-use Rattle.records.specs.Layout.{noticeMark, noticeLength, checkOwn, checkFor, decodeView, encodeView}
+use Rattle.records.specs.Numbers.{limit, roomCount, roomAbove}
+use Rattle.records.specs.Layout.{noticeMark, noticeLength, checkOwn, checkFor, roomOf, decodeView, encodeView}
 use Rattle.records.specs.declared.View.{View}
 use Rattle.records.proofs.CheckLaws.{long-mark}
 use Rattle.desk.specs.declared.checks.Desk.{Desk}
@@ -39,22 +39,36 @@ module _ (d : Desk) (b : List ℕ) where
       go (yes e) z = e
       go (no n) z = rw (ne-eqb (firstOf (hearChecks d b)) 0 n) at z
 
-  module _ (other : checkOwn noticeMark noticeLength b ≡ 4) (z : hearOf d b .refusal ≡ 0) where
-    -- the checks in turn: 6, 4 and 5, and those of the view
+  module _ (z : hearOf d b .refusal ≡ 0) where
+    -- the checks in turn: 6, 4 and 5, 20, and those of the record
     below : d .seat < seatCount
     unfolding hearChecks
     below = leb-false seatCount (d .seat) (first-none (leb seatCount (d .seat)) 5 _ .0 (none-applies z) .0)
 
-    behind-6 : firstOf (numbered (checkSeatRecord b) ∷ seatChecks d (seatRecordOf b)) ≡ 0
+    abbrev roomCheck : Check
+    roomCheck = record { number = 20; applies = roomAbove (roomOf b) }
+
+    behind-6 : firstOf (numbered (checkSeatRecord b) ∷ roomCheck ∷ seatChecks d (seatRecordOf b)) ≡ 0
     unfolding hearChecks
     behind-6 = first-none (leb seatCount (d .seat)) 5 _ .0 (none-applies z) .1
 
+    read : checkSeatRecord b ≡ 0
+    read = no-reason (checkSeatRecord b) _ behind-6 .0
+
+    behind-5 : firstOf (roomCheck ∷ seatChecks d (seatRecordOf b)) ≡ 0
+    behind-5 = no-reason (checkSeatRecord b) _ behind-6 .1
+
+    pub room-taken : roomOf b < roomCount
+    room-taken = leb-false roomCount (roomOf b) (first-none (roomAbove (roomOf b)) 19 _ .0 behind-5 .0)
+
+  module _ (other : checkOwn noticeMark noticeLength b ≡ 4) (z : hearOf d b .refusal ≡ 0) where
     is-view : seatRecordOf b ≡ aView (decodeView b)
-    is-view = let r = by-view b other in r .is (sym (r .number) ∙ no-reason (checkSeatRecord b) _ behind-6 .0)
+    is-view = let r = by-view b other in r .is (sym (r .number) ∙ read z)
 
     of-view : firstOf (seatChecks d (aView (decodeView b))) ≡ 0
     of-view =
-        let e : firstOf (seatChecks d (seatRecordOf b)) ≡ 0 = no-reason (checkSeatRecord b) _ behind-6 .1 in
+        let e : firstOf (seatChecks d (seatRecordOf b)) ≡ 0 =
+        first-none (roomAbove (roomOf b)) 19 _ .0 (behind-5 z) .1 in
         rw is-view at e
 
     low : tooHigh d (aView (decodeView b)) ≡ false
@@ -77,7 +91,7 @@ module _ (d : Desk) (b : List ℕ) where
     unfolding afterRecord hearOf
     took-view = record {
       sound = record {
-        seat = below;
+        seat = below z;
         start = ltb-false limit (d .start) (or-l _ (ltb limit (d .view)) own-low);
         view = ltb-false limit (d .view) (or-r (ltb limit (d .start)) _ own-low);
       };
@@ -87,6 +101,6 @@ module _ (d : Desk) (b : List ℕ) where
     }
 
 -- the bytes of a view have no notice's mark
-pub view-other : (v : View) → checkOwn noticeMark noticeLength (encodeView v) ≡ 4
+pub view-other : (room : ℕ) (v : View) → checkOwn noticeMark noticeLength (encodeView room v) ≡ 4
 unfolding checkOwn checkFor encodeView
-view-other v = rw (long-mark (encodeView v) (omega arith))
+view-other room v = rw (long-mark (encodeView room v) (omega arith))

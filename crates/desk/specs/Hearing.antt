@@ -1,5 +1,5 @@
--- What a seat makes of a start notice or a view: the reasons to refuse, in the order of change request 3, and what an
--- accepted one leaves.
+-- What a seat makes of a start notice or a view: the reasons to refuse, in the order of change requests 3 and 9, and
+-- what an accepted one leaves.
 use mathlib.Core.Bool.{true, false}
 use mathlib.Core.List.{List, _∷_}
 use Prim.Native.Nat.{ℕ}
@@ -7,8 +7,9 @@ use lib.Dec.{eqb, leb}
 use Rattle.laws.specs.Checks.{Check, numbered, firstOf}
 use Rattle.laws.specs.Upd.{ifb}
 use Rattle.seats.specs.Seats.{seatCount}
+use Rattle.records.specs.Numbers.{roomAbove}
 use Rattle.records.specs.Layout.{noticeMark, noticeLength, viewMark, viewLength, valueOf, markOf, checkEither}
-use Rattle.records.specs.Layout.{decodeNotice, decodeView}
+use Rattle.records.specs.Layout.{roomOf, decodeNotice, decodeView}
 use Rattle.desk.specs.declared.checks.Desk.{Desk}
 use Rattle.desk.specs.SeatChecks.{SeatRecord, aNotice, aView, seatChecks}
 use Rattle.desk.specs.declared.Heard.{Heard}
@@ -30,11 +31,12 @@ seatRecordOf b = ifb (eqb (markOf b) (valueOf noticeMark)) (aNotice (decodeNotic
 abbrev pub checkSeatRecord : List ℕ → ℕ
 checkSeatRecord = checkEither noticeMark noticeLength viewMark viewLength
 
--- a seat above 63 gets 6 before all else; then come 4 and 5
+-- a seat above 63 gets 6 before all else; then come 4 and 5, and 20 of the room
 unfoldable pub hearChecks : Desk → List ℕ → List Check
 hearChecks d b =
     record { number = 6; applies = leb seatCount (d .seat) }
-    ∷ numbered (checkSeatRecord b) ∷ seatChecks d (seatRecordOf b)
+    ∷ numbered (checkSeatRecord b) ∷ record { number = 20; applies = roomAbove (roomOf b) }
+    ∷ seatChecks d (seatRecordOf b)
 
 -- a notice sets the start number and opens a change; a view sets the view number and closes it
 unfoldable pub afterRecord : Desk → SeatRecord → Desk

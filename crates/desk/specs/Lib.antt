@@ -6,3 +6,5 @@ pub mod SeatChecks
 pub mod Hearing
 -- syncing
 pub mod Syncing
+-- a desk with its rooms
+pub mod Rooms

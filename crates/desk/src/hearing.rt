@@ -7,6 +7,7 @@ use record_bytes::notices::read_notice;
 use record_bytes::views::read_view;
 use records::Notice;
 use records::View;
+use records::numbers::room_above;
 use seats::SEATS;
 ghost use mathlib.Core.Path.{_≡_};
 ghost use Prim.Native.Nat.{_<_};
@@ -55,6 +56,9 @@ fn hear_view(desk: Desk, bytes: &[u8]) -> Heard
     if read.refusal != 0 {
         return refuse(desk, read.refusal);
     }
+    if room_above(read.room) {
+        return refuse(desk, 20);
+    }
     let refusal = view_refusal(desk, read.view);
     if refusal != 0 {
         return refuse(desk, refusal);
@@ -78,6 +82,9 @@ pub fn hear(desk: Desk, bytes: &[u8]) -> Heard
     }
     if told.refusal != 0 {
         return refuse(desk, told.refusal);
+    }
+    if room_above(told.room) {
+        return refuse(desk, 20);
     }
     let found = notice_refusal(desk, told.notice);
     if found != 0 {

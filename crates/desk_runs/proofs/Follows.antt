@@ -1,5 +1,5 @@
--- What every accepted event keeps of an office and one of its seats, and that the seat accepts what the event sends
--- it.
+-- What every accepted event keeps of an office and one of its seats, in any of the eight rooms, and that the seat
+-- accepts what the event sends it.
 use mathlib.Core.Path.{_≡_, refl, sym, ap, _∙_}
 use mathlib.Core.Bool.{Bool, true, false}
 use mathlib.Core.List.{List}
@@ -14,7 +14,7 @@ use Rattle.laws.proofs.Upd.{upd-same, upd-other}
 use Rattle.seats.specs.Seats.{seatCount, has, containsOf}
 use Rattle.seats.specs.Offices.{officeOf}
 use Rattle.seats.proofs.OfficeLaws.{seat-serves}
-use Rattle.records.specs.Numbers.{limit}
+use Rattle.records.specs.Numbers.{limit, roomCount}
 use Rattle.records.proofs.NumberLaws.{sixteen-below}
 use Rattle.records.specs.Fits.{FitsReport, FitsView}
 use Rattle.records.specs.declared.Report.{Report}
@@ -37,7 +37,7 @@ use Rattle.desk.specs.Hearing.{afterRecord}
 use Rattle.desk.proofs.Accepted.{SoundDesk, TakesView, notice-heard, view-heard}
 use Rattle.desk_runs.proofs.Taking.{Hears, at-end, passes, accepts, hears-then}
 
-module _ (seat : ℕ) (lt : seat < seatCount) where
+module _ (room : ℕ) (in-room : room < roomCount) (seat : ℕ) (lt : seat < seatCount) where
   -- the seat is one of this office, and no number of it is above the office's
   pub record Behind (d : Desk) (s : State) : Type 0 where
     pub is-seat : d .seat ≡ seat
@@ -79,7 +79,7 @@ module _ (seat : ℕ) (lt : seat < seatCount) where
 
   -- the seat after the records of an outcome, none of which it refuses; it follows the state
   abbrev pub Follow : Desk → Outcome → Type 0
-  Follow d o = Beside (Hears seat) Follows d (o .written) (o .state)
+  Follow d o = Beside (Hears room seat) Follows d (o .written) (o .state)
 
   -- a state with the same net view, view and start number
   module _ {d : Desk} {s t : State} {m : Mode} {stored : ℕ → Slot} {accepted : ℕ → ℕ} {number : ℕ} {used : ℕ → ℕ}
@@ -110,7 +110,7 @@ module _ (seat : ℕ) (lt : seat < seatCount) where
     changing : Changing d s
 
   opens-follow : (d : Desk) (s : State) → Behind d s → opened s .start ≤ limit
-      → Beside (Hears seat) Opened d (opens s .written) (opened s)
+      → Beside (Hears room seat) Opened d (opens s .written) (opened s)
   unfolding opens opened noticeOf afterRecord
   opens-follow d s b low = go (containsOf (s .net .bits) seat) refl
     where
@@ -128,7 +128,8 @@ module _ (seat : ℕ) (lt : seat < seatCount) where
         changing = record { reached = omega arith; is-open = t };
       }
 
-      go : (m : Bool) → containsOf (s .net .bits) seat ≡ m → Beside (Hears seat) Opened d (opens s .written) (opened s)
+      go : (m : Bool) → containsOf (s .net .bits) seat ≡ m
+          → Beside (Hears room seat) Opened d (opens s .written) (opened s)
       go false m = record {
         then = d;
         told = passes m at-end;
@@ -137,7 +138,8 @@ module _ (seat : ℕ) (lt : seat < seatCount) where
       go true m = record {
         then = afterRecord d (aNotice (noticeOf (opened s)));
         told = accepts {w = notice (noticeOf (opened s))} m
-            (notice-heard d sound (noticeOf (opened s)) (record { start = omega arith; members = b .fits })
+            (notice-heard d sound room in-room (noticeOf (opened s))
+            (record { start = omega arith; members = b .fits })
             (record { within = low; member = rw (b .is-seat) m; above = rises .0; reaches = rises .1 }))
             (record { seat = refl; start = omega arith; view = omega arith }) at-end;
         holds = opens-at (afterRecord d (aNotice (noticeOf (opened s)))) (b .is-seat) (omega arith) (b .view)
@@ -269,7 +271,7 @@ module _ (seat : ℕ) (lt : seat < seatCount) where
       unfolding concluded viewOf afterRecord
       heard = record {
         then = afterRecord d (aView (viewOf s));
-        told = accepts {w = view (viewOf s)} m (view-heard d sound (viewOf s) fits takes)
+        told = accepts {w = view (viewOf s)} m (view-heard d sound room in-room (viewOf s) fits takes)
             (record { seat = refl; start = omega arith; view = omega arith }) at-end;
         holds = settled (afterRecord d (aView (viewOf s)))
             (record {
@@ -292,7 +294,7 @@ module _ (seat : ℕ) (lt : seat < seatCount) where
   follow-then : {d : Desk} {o : Outcome} (f : State → Outcome) (x : Follow d o) → Follow (x .then) (f (o .state))
       → Follow d (andThen o f)
   unfolding andThen
-  follow-then f x y = record { then = y .then; told = hears-then seat (x .told) (y .told); holds = y .holds }
+  follow-then f x y = record { then = y .then; told = hears-then room seat (x .told) (y .told); holds = y .holds }
 
   -- a slow proposal, by the mode that it is made in
   abbrev slowly : Mode → State → Outcome
@@ -326,7 +328,7 @@ module _ (seat : ℕ) (lt : seat < seatCount) where
       let x = opens-follow d s (f .behind) low in
       record {
         then = x .then;
-        told = hears-then seat (x .told) (passes refl at-end);
+        told = hears-then room seat (x .told) (passes refl at-end);
         holds = proposed-follows (x .then) Slow (slowNumber (opened s)) (opened s) (x .holds);
       }
   slow-follows Fast d s e f low = in-round d s (λ n. let z : _≡_ {A = ℕ} 0 1 = cc in omega arith) f
@@ -367,8 +369,8 @@ module _ (seat : ℕ) (lt : seat < seatCount) where
         let x = opens-follow d t b l in
         record {
           then = x .then;
-          told = hears-then seat (x .told)
-              (if-cases (λ (ws : List Written). Hears seat (x .then) ws (x .then))
+          told = hears-then room seat (x .told)
+              (if-cases (λ (ws : List Written). Hears room seat (x .then) ws (x .then))
               (hasRecipient (ownProposal Fast (nextNumber (opened t)) (opened t))) _ _
               (λ e. passes refl at-end) (λ e. at-end));
           holds = proposed-follows (x .then) Fast (nextNumber (opened t)) (opened t) (x .holds);

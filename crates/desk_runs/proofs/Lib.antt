@@ -4,3 +4,5 @@ pub mod Runs
 mod Taking
 pub mod Syncs
 pub mod Turns
+pub mod Rooms
+pub mod RoomsRuns

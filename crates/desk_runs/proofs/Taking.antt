@@ -1,4 +1,4 @@
--- A seat that takes records one after another and refuses none.
+-- A seat that takes records of a room one after another and refuses none.
 use mathlib.Core.Path.{_≡_, refl, ap, _∙_}
 use mathlib.Core.Bool.{true, false}
 use mathlib.Core.List.{List, [], _∷_, _++_}
@@ -26,14 +26,15 @@ pub record DeskUpTo (seat : ℕ) (d : Desk) (m : ℕ) : Type 0 where
   pub start : d .start ≤ m
   pub view : d .view ≤ m
 
-module _ (seat : ℕ) where
+module _ (room seat : ℕ) where
   -- the seat d hears what is for it of the records, each is accepted, and it is e then
   pub data Hears : Desk → List Written → Desk → Type 0 where
     at-end : {d : Desk} → Hears d [] d
     passes : {d e : Desk} {w : Written} {ws : List Written} → forSeat seat w ≡ false → Hears d ws e
         → Hears d (w ∷ ws) e
     accepts : {d e f : Desk} {w : Written} {ws : List Written} → forSeat seat w ≡ true
-        → hearOf d (bytesOf w) ≡ record { refusal = 0; desk = e } → Notes d w e → Hears e ws f → Hears d (w ∷ ws) f
+        → hearOf d (bytesOf room w) ≡ record { refusal = 0; desk = e } → Notes d w e → Hears e ws f
+        → Hears d (w ∷ ws) f
 
   pub hears-then : {d e f : Desk} {a b : List Written} → Hears d a e → Hears e b f → Hears d (a ++ b) f
   hears-then at-end q = q
@@ -60,14 +61,15 @@ module _ (seat : ℕ) where
       hears-up-to m h (record { is-seat = n .seat ∙ u .is-seat; start = omega arith; view = omega arith }) ls
 
   pub all-accepted : {d e : Desk} {ws : List Written} → Hears d ws e
-      → Every (λ h. h .refusal ≡ 0) (hearings d (sentTo seat ws))
+      → Every (λ h. h .refusal ≡ 0) (hearings room d (sentTo seat ws))
   unfolding hearings sentTo
   all-accepted at-end = none
   all-accepted (passes n h) = rw n (all-accepted h)
   all-accepted (accepts y e n h) = rw (y, e) (more refl (all-accepted h))
 
-  pub desk-then : {d e : Desk} {ws : List Written} → Hears d ws e → deskAfter d (sentTo seat ws) ≡ e
+  pub desk-then : {d e : Desk} {ws : List Written} → Hears d ws e → deskAfter room d (sentTo seat ws) ≡ e
   unfolding sentTo runs
   desk-then at-end = refl
   desk-then (passes n h) = rw n (desk-then h)
-  desk-then (accepts {ws} y e n h) = rw y (ap (λ (x : Heard). deskAfter (x .desk) (sentTo seat ws)) e ∙ desk-then h)
+  desk-then (accepts {ws} y e n h) =
+      rw y (ap (λ (x : Heard). deskAfter room (x .desk) (sentTo seat ws)) e ∙ desk-then h)

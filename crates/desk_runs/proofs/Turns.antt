@@ -7,6 +7,7 @@ use native.Mathlib.Omega.{arith}
 use Rattle.laws.specs.Lists.{Every}
 use Rattle.seats.specs.Seats.{seatCount}
 use Rattle.seats.specs.Offices.{officeOf}
+use Rattle.records.specs.Numbers.{roomCount}
 use Rattle.rules.specs.State.{State}
 use Rattle.rules.specs.Rules.{fresh, restarted}
 use Rattle.rule_laws.proofs.Parts.{restarted-reads, restarted-view}
@@ -21,10 +22,10 @@ use Rattle.desk_runs.proofs.Taking.{Hears, at-end, hears-then, hears-ta
 use Rattle.desk_runs.proofs.Follows.{Follows}
 use Rattle.desk_runs.proofs.Runs.{next-heard, fresh-follows}
 
-module _ (seat : ℕ) (lt : seat < seatCount) where
+module _ (room : ℕ) (in-room : room < roomCount) (seat : ℕ) (lt : seat < seatCount) where
   -- a seat follows its office over a restart at or above all that it knows
   again-follows : (d : Desk) (s : State) (m : ℕ) → s .own ≡ officeOf seat → DeskUpTo seat d m
-      → Follows seat lt d (restarted (s .own) m)
+      → Follows room in-room seat lt d (restarted (s .own) m)
   again-follows d s m own u =
       let r = restarted-reads (s .own) m in
       record {
@@ -41,19 +42,23 @@ module _ (seat : ℕ) (lt : seat < seatCount) where
 
   pub turns-accepted : (ts : List Turn) → Every (λ t. OfSeats (handedAt t .event)) ts
       → TurnsAbove (fresh (officeOf seat)) [] ts
-      → Every (λ h. h .refusal ≡ 0) (hearings (freshDesk seat) (sentTo seat (leftOver (fresh (officeOf seat)) ts)))
+      → Every (λ h. h .refusal ≡ 0)
+      (hearings room (freshDesk seat) (sentTo seat (leftOver (fresh (officeOf seat)) ts)))
   turns-accepted ts y a =
-      all-accepted seat
-      (beside-turns (Hears seat) (Follows seat lt) (DeskUpTo seat) (λ c. at-end) (λ c d e a b. hears-then seat)
-      (λ c d ws k. hears-take seat k) (λ c d ws m. hears-up-to seat m)
-      (λ c d s ws m p t u l. again-follows d s m (p .behind .office) u) (λ h. OfSeats (h .event)) (next-heard seat lt)
-      (freshDesk seat) (fresh (officeOf seat)) [] ts y (fresh-follows seat lt) (λ m e. unfold freshDesk in
+      all-accepted room seat
+      (beside-turns (Hears room seat) (Follows room in-room seat lt) (DeskUpTo seat) (λ c. at-end)
+      (λ c d e a b. hears-then room seat)
+      (λ c d ws k. hears-take room seat k) (λ c d ws m. hears-up-to room seat m)
+      (λ c d s ws m p t u l. again-follows d s m (p .behind .office) u) (λ h. OfSeats (h .event))
+      (next-heard room in-room seat lt)
+      (freshDesk seat) (fresh (officeOf seat)) [] ts y (fresh-follows room in-room seat lt) (λ m e. unfold freshDesk in
       record { is-seat = refl; start = omega arith; view = omega arith }) a .1)
 
   -- and where the office is cut off after any byte written to its file, which is empty at first, and after any record
   -- that left
   pub files-accepted : (ts : List FileTurn) → Every (λ t. OfSeats (beginsWith t .event)) ts
-      → Every (λ h. h .refusal ≡ 0) (hearings (freshDesk seat) (sentTo seat (leftKept (freshKept (officeOf seat)) ts)))
+      → Every (λ h. h .refusal ≡ 0)
+      (hearings room (freshDesk seat) (sentTo seat (leftKept (freshKept (officeOf seat)) ts)))
   files-accepted ts y =
       let x = kept-turns (officeOf seat) own-lt ts in
       rw (x .0) (turns-accepted (turnsOf (freshKept (officeOf seat)) ts)

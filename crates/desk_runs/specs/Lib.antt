@@ -1,3 +1,5 @@
-pub mod Days
 pub mod Sent
+pub mod Rooms
 pub mod Syncs
+pub mod Days
+pub mod RoomsSent

@@ -1,4 +1,4 @@
--- What an office sends to one of its seats, and what the seat answers.
+-- What an office sends to one of its seats in a room, and what the seat answers there.
 use mathlib.Core.Bool.{Bool, false}
 use mathlib.Core.List.{List, [], _∷_}
 use Prim.Native.Nat.{ℕ}
@@ -22,10 +22,10 @@ unfoldable pub sentTo : ℕ → List Written → List Written
 sentTo seat [] = []
 sentTo seat (w ∷ ws) = ifb (forSeat seat w) (w ∷ sentTo seat ws) (sentTo seat ws)
 
--- a seat takes records one after another: what comes of each, and its state after them
-unfoldable pub hearings : Desk → List Written → List Heard
-hearings d [] = []
-hearings d (w ∷ ws) = hearOf d (bytesOf w) ∷ hearings (hearOf d (bytesOf w) .desk) ws
+-- a seat takes records of a room one after another: what comes of each, and its state after them
+unfoldable pub hearings : ℕ → Desk → List Written → List Heard
+hearings room d [] = []
+hearings room d (w ∷ ws) = hearOf d (bytesOf room w) ∷ hearings room (hearOf d (bytesOf room w) .desk) ws
 
-abbrev pub deskAfter : Desk → List Written → Desk
-deskAfter = runs (λ d w. hearOf d (bytesOf w) .desk)
+abbrev pub deskAfter : ℕ → Desk → List Written → Desk
+deskAfter room = runs (λ d w. hearOf d (bytesOf room w) .desk)

@@ -21,9 +21,9 @@ pub changed-as : {f : State → State} {a b : List ℕ} (g : State → State) �
 changed-as g x e = record { is = x .is ∙ e; row = x .row }
 
 -- a part that is another on this row
-pub did-as : {f : State → Outcome} {ws out ws′ out′ : List ℕ} {at n : ℕ} (g : State → Outcome)
-    → Did f ws out at ws′ out′ n
-    → f (stateOf ws) ≡ g (stateOf ws) → Did g ws out at ws′ out′ n
+pub did-as : {room : ℕ} {f : State → Outcome} {ws out ws′ out′ : List ℕ} {at n : ℕ} (g : State → Outcome)
+    → Did room f ws out at ws′ out′ n
+    → f (stateOf ws) ≡ g (stateOf ws) → Did room g ws out at ws′ out′ n
 did-as g d e = record {
   is = d .is ∙ ap (λ (o : Outcome). o .state) e;
   row = d .row;
@@ -31,74 +31,79 @@ did-as g d e = record {
 }
 
 -- one part after another
-pub did-then : {f g : State → Outcome} {ws out ws′ out′ ws″ out″ : List ℕ} {at m n : ℕ} → Did f ws out at ws′ out′ m
-    → Did g ws′ out′ m ws″ out″ n → Did (λ s. andThen (f s) g) ws out at ws″ out″ n
+pub did-then : {room : ℕ} {f g : State → Outcome} {ws out ws′ out′ ws″ out″ : List ℕ} {at m n : ℕ}
+    → Did room f ws out at ws′ out′ m
+    → Did room g ws′ out′ m ws″ out″ n → Did room (λ s. andThen (f s) g) ws out at ws″ out″ n
 unfolding andThen
-did-then {f} {g} a b = record {
+did-then {room} {f} {g} a b = record {
   is = b .is ∙ ap (λ (s : State). g s .state) (a .is);
   row = b .row;
   written = appended-then (a .written) (rw (a .is) at (b .written));
 }
 
 -- a part after a change
-pub did-after : {h : State → State} {f : State → Outcome} {ws mid out ws′ out′ : List ℕ} {at n : ℕ} → Changed h ws mid
-    → Did f mid out at ws′ out′ n → Did (λ s. f (h s)) ws out at ws′ out′ n
-did-after {h} {f} x d = record {
+pub did-after : {room : ℕ} {h : State → State} {f : State → Outcome} {ws mid out ws′ out′ : List ℕ} {at n : ℕ}
+    → Changed h ws mid
+    → Did room f mid out at ws′ out′ n → Did room (λ s. f (h s)) ws out at ws′ out′ n
+did-after {room} {h} {f} x d = record {
   is = d .is ∙ ap (λ (s : State). f s .state) (x .is);
   row = d .row;
   written = rw (x .is) at (d .written);
 }
 
 -- a change and no record, no change at all, a change and one record
-pub did-quiet : {h : State → State} {ws ws′ : List ℕ} (out : List ℕ) (at : ℕ) → Changed h ws ws′
-    → Did (λ s. nothingWritten (h s)) ws out at ws′ out at
+pub did-quiet : {room : ℕ} {h : State → State} {ws ws′ : List ℕ} (out : List ℕ) (at : ℕ) → Changed h ws ws′
+    → Did room (λ s. nothingWritten (h s)) ws out at ws′ out at
 did-quiet out at x = record { is = x .is; row = x .row; written = appended-none out at }
 
-pub did-none : {ws : List ℕ} (out : List ℕ) (at : ℕ) → Row ws → Did nothingWritten ws out at ws out at
+pub did-none : {room : ℕ} {ws : List ℕ} (out : List ℕ) (at : ℕ) → Row ws → Did room nothingWritten ws out at ws out at
 did-none out at r = record { is = refl; row = r; written = appended-none out at }
 
 abbrev pub one : (State → State) → Written → State → Outcome
 one h w s = record { state = h s; written = w ∷ [] }
 
-pub did-one : {h : State → State} {ws ws′ out out′ : List ℕ} {at n : ℕ} (w : Written) → Changed h ws ws′
+pub did-one : {room : ℕ} {h : State → State} {ws ws′ out out′ : List ℕ} {at n : ℕ} (w : Written) → Changed h ws ws′
     → Fits (one h w) ws out at
-    → Placed out at (bytesOf w) n out′ → Did (one h w) ws out at ws′ out′ (at + n)
-did-one {h} {ws} {ws′} {out} {out′} {at} {n} w x room p =
-    record { is = x .is; row = x .row; written = appended-one out at w n out′ room p }
+    → Placed out at (bytesOf room w) n out′ → Did room (one h w) ws out at ws′ out′ (at + n)
+did-one {room} {h} {ws} {ws′} {out} {out′} {at} {n} w x fits p =
+    record { is = x .is; row = x .row; written = appended-one out at w n out′ fits p }
 
 -- a part that on this row is a change and one record
-pub did-wrote : (part : State → Outcome) {h : State → State} {ws ws′ out out′ : List ℕ} {at n : ℕ} (w : Written)
+pub did-wrote : {room : ℕ} (part : State → Outcome) {h : State → State} {ws ws′ out out′ : List ℕ} {at n : ℕ}
+    (w : Written)
     → Changed h ws ws′
-    → one h w (stateOf ws) ≡ part (stateOf ws) → Fits part ws out at → Placed out at (bytesOf w) n out′
-    → Did part ws out at ws′ out′ (at + n)
-did-wrote part {h} {ws} {ws′} {out} w x e room p =
+    → one h w (stateOf ws) ≡ part (stateOf ws) → Fits part ws out at → Placed out at (bytesOf room w) n out′
+    → Did room part ws out at ws′ out′ (at + n)
+did-wrote part {h} {ws} {ws′} {out} w x e fits p =
     let f : w ∷ [] ≡ part (stateOf ws) .written = ap (λ (o : Outcome). o .written) e in
-    did-as part (did-one w x (rw f room) p) e
+    did-as part (did-one w x (rw f fits) p) e
 
--- the room
-pub did-end : {f : State → Outcome} {ws out ws′ out′ : List ℕ} {at n : ℕ} → Did f ws out at ws′ out′ n
+-- the place behind it is in the output, whose length stays
+pub did-end : {room : ℕ} {f : State → Outcome} {ws out ws′ out′ : List ℕ} {at n : ℕ} → Did room f ws out at ws′ out′ n
     → Fits f ws out at → n ≤ length out
-did-end d room = let e = d .written .place in omega arith
+did-end d fits = let e = d .written .place in omega arith
 
-pub did-length : {f : State → Outcome} {ws out ws′ out′ : List ℕ} {at n : ℕ} → Did f ws out at ws′ out′ n
+pub did-length : {room : ℕ} {f : State → Outcome} {ws out ws′ out′ : List ℕ} {at n : ℕ}
+    → Did room f ws out at ws′ out′ n
     → length out′ ≡ length out
 did-length d = ap length (d .written .output) ∙ simp length-sets
 
 pub fits-as : (f g : State → Outcome) (ws out : List ℕ) (at : ℕ) → f (stateOf ws) ≡ g (stateOf ws)
     → Fits g ws out at → Fits f ws out at
-fits-as f g ws out at e room = rw e room
+fits-as f g ws out at e fits = rw e fits
 
--- a part that writes what a rule does has room in 182 bytes
-pub part-fits : (part : State → Outcome) (t : State) (o : Outcome) (room : ℕ) → part t ≡ o
-    → size (o .written) ≤ fullRoom → fullRoom ≤ room
-    → 0 + size (part t .written) ≤ room
-part-fits part t o room q h le = let f = ap (λ (x : Outcome). size (x .written)) q in omega arith
+-- a part that writes what a rule does has room in 185 bytes
+pub part-fits : (part : State → Outcome) (t : State) (o : Outcome) (output : ℕ) → part t ≡ o
+    → size (o .written) ≤ fullRoom → fullRoom ≤ output
+    → 0 + size (part t .written) ≤ output
+part-fits part t o output q h le = let f = ap (λ (x : Outcome). size (x .written)) q in omega arith
 
-pub event-fits : (part : State → Outcome) (s t : State) (e : Event) (room : ℕ) → part t ≡ ruleOf s e → fullRoom ≤ room
-    → 0 + size (part t .written) ≤ room
-event-fits part s t e room q = part-fits part t (ruleOf s e) room q (event-size s e)
+pub event-fits : (part : State → Outcome) (s t : State) (e : Event) (output : ℕ) → part t ≡ ruleOf s e
+    → fullRoom ≤ output
+    → 0 + size (part t .written) ≤ output
+event-fits part s t e output q = part-fits part t (ruleOf s e) output q (event-size s e)
 
-module _ (f g : State → Outcome) (ws out : List ℕ) (at : ℕ) (room : Fits (λ s. andThen (f s) g) ws out at) where
+module _ (f g : State → Outcome) (ws out : List ℕ) (at : ℕ) (fits : Fits (λ s. andThen (f s) g) ws out at) where
   both : size (andThen (f (stateOf ws)) g .written) ≡ size (f (stateOf ws) .written) + size
       (g (f (stateOf ws) .state) .written)
   unfolding andThen
@@ -107,7 +112,7 @@ module _ (f g : State → Outcome) (ws out : List ℕ) (at : ℕ) (room : Fits (
   pub fits-first : Fits f ws out at
   fits-first = let e = both in omega arith
 
-  pub fits-second : (ws′ out′ : List ℕ) (m : ℕ) → Did f ws out at ws′ out′ m → Fits g ws′ out′ m
+  pub fits-second : {room : ℕ} (ws′ out′ : List ℕ) (m : ℕ) → Did room f ws out at ws′ out′ m → Fits g ws′ out′ m
   fits-second ws′ out′ m d =
       let e = both in
       let p = d .written .place in

@@ -21,9 +21,9 @@ pub fn receive(s: &mut [u32], p: Proposal)
     row::changes::set_accepted(s, o, p.number);
 }
 
-pub fn opens(s: &mut [u32], out: &mut [u8], at: usize) -> usize
+pub fn opens(s: &mut [u32], out: &mut [u8], at: usize, room: u8) -> usize
     requires { ⌜ Row (now s) × Bounded reach (stateOf (now s)) × Fits opens (now s) (now out) at ⌝ }
-    ensures { λ n. ⌜ Did opens (now (s .entry)) (now (out .entry)) at (now (s .exit)) (now (out .exit)) n ⌝ }
+    ensures { λ n. ⌜ Did room opens (now (s .entry)) (now (out .entry)) at (now (s .exit)) (now (out .exit)) n ⌝ }
 {
     let start = larger(row::view_number(s), row::start(s) + 1);
     let members = row::net(s);
@@ -36,5 +36,6 @@ pub fn opens(s: &mut [u32], out: &mut [u8], at: usize) -> usize
                 start: start,
                 members: members,
             },
+            room,
         )
 }

@@ -1,17 +1,22 @@
 -- For the module answering: the line of a record that was answered.
-use mathlib.Core.Path.{_≡_, refl, ap, _∙_}
+use mathlib.Core.Path.{_≡_, refl, sym, ap, _∙_, subst}
 use mathlib.Core.Bool.{Bool, true, false}
 use mathlib.Core.List.{List, []}
-use Prim.Native.Nat.{ℕ, _≤_}
+use Prim.Native.Nat.{ℕ, _≤_, _<_}
 use native.Mathlib.Omega.{arith}
 use lib.ListN.{length, take}
 use Rattle.laws.specs.Upd.{ifb}
 use Rattle.laws.proofs.Big.{sets-front}
-use Rattle.rules.specs.State.{State}
-use Rattle.rule_laws.proofs.Sizes.{step-size}
-use Rattle.rules.specs.Refusals.{fullRoom, Result, stepOf, allBytes, size}
-use Rattle.row.specs.Row.{stateOf}
-use Rattle.text.specs.Lines.{lineFor, goesOn}
+use Rattle.records.specs.Numbers.{roomCount}
+use Rattle.records.specs.Layout.{roomOf}
+use Rattle.rules.specs.Refusals.{fullRoom, allBytes, size}
+use Rattle.rules.specs.Tables.{Table, TableResult, stepTable}
+use Rattle.rule_laws.proofs.Sizes.{size-bytes}
+use Rattle.rule_laws.proofs.TableSteps.{table-size}
+use Rattle.row.specs.Table.{tableOf, SoundTable}
+use Rattle.row.proofs.Tables.{sound-table}
+use Rattle.text.specs.Lines.{goesOn, roomless, viewFor, lineFor}
+use Rattle.text.proofs.RoomLaws.{room-named}
 use Rattle.step.specs.Held.{HeldStep}
 use Rattle.feed.specs.Answered.{Answered}
 use Rattle.buffers.specs.declared.input.Place.{Place}
@@ -19,27 +24,43 @@ use Rattle.step.specs.declared.answers.Answer.{Answer}
 use Rattle.buffers.specs.Progress.{Told}
 
 -- the bytes shown are those that the step wrote, or none
-shown-bytes : {q : Result} {out out′ ws′ : List ℕ} {n w : ℕ} → HeldStep q out n w ws′ out′
+shown-bytes : {room : ℕ} {q : TableResult} {out out′ ws′ : List ℕ} {n w : ℕ} → HeldStep room q out n w ws′ out′
     → size (q .written) ≤ length out
-    → (traced : Bool) → take (ifb traced w 0) out′ ≡ ifb traced (allBytes (q .written)) []
-shown-bytes {q} {out} h l true = rw (h .same-written, h .same-out) (sets-front out (allBytes (q .written)) l)
+    → (traced : Bool) → take (ifb traced w 0) out′ ≡ ifb traced (allBytes room (q .written)) []
+shown-bytes {room} {q} {out} h l true =
+    let e = size-bytes room (q .written) in
+    rw (h .same-written, h .same-out, sym e) (sets-front out (allBytes room (q .written)) (omega arith))
 shown-bytes h l false = refl
 
-pub written-short : {o o′ ws′ : List ℕ} {n w : ℕ} (s : State) (b : List ℕ) (room : ℕ)
-    → HeldStep (stepOf s b room) o n w ws′ o′ → w ≤ fullRoom
-written-short s b room h = omega (arith, h .same-written, step-size s b room)
+pub written-short : {room : ℕ} {o o′ ws′ : List ℕ} {n w : ℕ} (t : Table) (b : List ℕ) (output : ℕ)
+    → HeldStep room (stepTable t b output) o n w ws′ o′ → w ≤ fullRoom
+written-short t b output h = omega (arith, h .same-written, table-size t b output)
+
+-- the lent output is the least that every event has room in
+pub in-full : (t : Table) (b : List ℕ) {room n w : ℕ} {out out′ ws′ : List ℕ} → length out ≡ fullRoom
+    → HeldStep room (stepTable t b (length out)) out n w ws′ out′
+    → HeldStep room (stepTable t b fullRoom) out n w ws′ out′
+in-full t b {room} {n} {w} {out} {out′} {ws′} l h =
+    subst (λ (k : ℕ). HeldStep room (stepTable t b k) out n w ws′ out′) l h
+
+-- the view number of its room is asked for only where it names one
+pub room-known : (ws b : List ℕ) {out out′ ws′ : List ℕ} {n w : ℕ} → SoundTable ws
+    → HeldStep (roomOf b) (stepTable (tableOf ws) b fullRoom) out n w ws′ out′ → roomless n ≡ false
+    → roomOf b < roomCount
+room-known ws b s h k = room-named (tableOf ws) b (sound-table ws s) (ap roomless (sym (h .same-refusal)) ∙ k)
 
 -- the line of a record stands behind what is unwritten
 pub answered : (traced : Bool) {ws : List ℕ} (p : Place) (b : List ℕ) {o o′ out out′ ws′ : List ℕ}
     {a : Answer} {view : ℕ} {more : Bool} {r : Place}
-    → HeldStep (stepOf (stateOf ws) b fullRoom) out (a .refusal) (a .written) ws′ out′ → length out ≡ fullRoom
-    → view ≡ stateOf ws′ .view .number
+    → HeldStep (roomOf b) (stepTable (tableOf ws) b fullRoom) out (a .refusal) (a .written) ws′ out′
+    → length out ≡ fullRoom
+    → view ≡ ifb (roomless (a .refusal)) 0 (tableOf ws′ (roomOf b) .view .number)
     → Told traced p (length b) a view out′ o r o′ → more ≡ goesOn (a .refusal)
     → Answered traced ws p b o (record { more = more; unread = false; place = r }) ws′ o′
-unfolding lineFor
+unfolding lineFor viewFor
 answered traced {ws} p b h l v t m = record {
   sound = h .sound;
-  state = h .same-state;
+  table = h .same-table;
   more = m ∙ ap goesOn (h .same-refusal);
   unread = refl;
   ended = ap (λ (x : Place). x .ended) (t .place);
@@ -48,6 +69,7 @@ answered traced {ws} p b h l v t m = record {
   filled = t .filled;
   number = ap (λ (x : Place). x .number) (t .place);
   line =
-      let shown = shown-bytes h (rw l (step-size (stateOf ws) b fullRoom)) traced in
-      t .line ∙ rw (shown, v, h .same-state, h .same-refusal, h .same-written);
+      let shown = shown-bytes h (rw l (table-size (tableOf ws) b fullRoom)) traced in
+      let state = ap (λ (x : Table). x (roomOf b)) (h .same-table) in
+      t .line ∙ rw (shown, v, state, h .same-refusal, h .same-written);
 }

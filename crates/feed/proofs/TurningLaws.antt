@@ -13,9 +13,11 @@ use borrow.Author.Tests.{eqb-false}
 use Rattle.laws.proofs.Fin.{true-false}
 use Rattle.laws.specs.Lists.{none, more}
 use Rattle.records.specs.Run.{runCheck}
-use Rattle.row.specs.Row.{stateOf}
+use Rattle.records.specs.Layout.{roomOf}
+use Rattle.rules.specs.Tables.{wellTable}
+use Rattle.row.specs.Table.{tableOf, SoundTable}
+use Rattle.row.proofs.Tables.{sound-table}
 use Rattle.text.specs.Lines.{frontOf, behindOf, answerFor, lineFor}
-use Rattle.step.specs.Held.{Sound}
 use Rattle.feed.specs.TurnReady.{TurnReady}
 use Rattle.buffers.specs.Place.{Within, windowOf, unwrittenOf, waitsOf, Refilled}
 use Rattle.buffers.specs.Room.{bufferLength, roomFor}
@@ -46,7 +48,7 @@ same-stand : {ws : List ℕ} {ended ended′ : Bool} {n n′ : ℕ} {w w′ u u�
     (record { words = ws; ended = ended′; number = n′; window = w′; unwritten = u′ })
 same-stand e n w u = rw (e, n, w, u)
 
-module _ (traced : Bool) {ws : List ℕ} (p : Place) (i o : List ℕ) (sound : Sound ws) (in-place : Within p) where
+module _ (traced : Bool) {ws : List ℕ} (p : Place) (i o : List ℕ) (sound : SoundTable ws) (in-place : Within p) where
   -- more of the input
   pub advances-read : {i′ : List ℕ} {r : Grown} → waitsOf (p .ended) (windowOf p i) ≡ true → Refilled p i r i′
       → Advances traced ws p i o (record { more = not (r .unread); unread = r .unread; place = r .place }) ws i′ o
@@ -113,7 +115,7 @@ module _ (traced : Bool) {ws : List ℕ} (p : Place) (i o : List ℕ) (sound : S
       got = [];
       printed = [];
       buffer = sym (append-nil (unwrittenOf p o));
-      text = λ f e. lines-nil traced (stateOf ws) (p .number) (windowOf p i ++ f)
+      text = λ f e. lines-nil traced (tableOf ws) (p .number) (windowOf p i ++ f)
           (rw (e ended, append-nil (windowOf p i)) h);
       takes = λ m. absurd (true-false false m refl);
       end = λ e. (e, refl);
@@ -148,19 +150,19 @@ module _ (traced : Bool) {ws : List ℕ} (p : Place) (i o : List ℕ) (sound : S
     unread = λ y. absurd (true-false (r .unread) y (a .unread));
     keeps = λ u. record {
       got = [];
-      printed = lineFor traced (p .number + 1) (answerFor (stateOf ws) v);
+      printed = lineFor traced (p .number + 1) (roomOf (frontOf v)) (answerFor (tableOf ws) v);
       buffer = a .line;
-      text = λ f z. decided-text traced (stateOf ws) (p .number) (sound .well) v f h (decided f z)
-          ∙ rw (left, a .more, a .number, a .state);
+      text = λ f z. decided-text traced (tableOf ws) (p .number) well v f h (decided f z)
+          ∙ rw (left, a .more, a .number, a .table);
       takes = λ m.
-          let k = came-whole traced (stateOf ws) (p .number) (sound .well) v h (sym (a .more) ∙ m) in
+          let k = came-whole traced (tableOf ws) (p .number) well v h (sym (a .more) ∙ m) in
           let e : frontOf v ++ [] ≡ frontOf v = append-nil (frontOf v) in
           record {
             parts = frontOf v ∷ [];
             whole = more (k .0) none;
             count = a .number;
             left = rw (e, left, append-nil v) (sym (front-behind v));
-            lines = λ f. rw (e, a .state, a .number) (k .1 f);
+            lines = λ f. rw (e, a .table, a .number) (k .1 f);
           };
       end = λ z. (a .ended ∙ z, refl);
       number = omega (arith, a .number);
@@ -172,6 +174,9 @@ module _ (traced : Bool) {ws : List ℕ} (p : Place) (i o : List ℕ) (sound : S
     where
       v : List ℕ
       v = windowOf p i
+
+      well : wellTable (tableOf ws) ≡ true
+      well = sound-table ws sound
 
       l : p .at + length (frontOf v) ≤ p .end
       l = front-fits p i li in-place refl
@@ -200,20 +205,26 @@ keeps-from : {traced more : Bool} {ws ws′ : List ℕ} {ended before ended′ :
 keeps-from e n w u k = rw (e, n, w, u) at k
 
 -- after a write a turn is as ready as before, and its window is the same
-pub sent-ready : {ws : List ℕ} {p q : Place} {waiting : Bool} (i o : List ℕ) {o₁ : List ℕ} → TurnReady ws p i o
+pub sent-ready : {ws : List ℕ} {p q : Place} {waiting : Bool} (i : List ℕ) {out : List ℕ} (o : List ℕ) {o₁ : List ℕ}
+    → TurnReady ws p i out o
     → Emptied p waiting o q o₁ → length o₁ ≡ length o
-    → TurnReady ws q i o₁ × (waitsOf (p .ended) (windowOf p i) ≡ waitsOf (q .ended) (windowOf q i))
+    → TurnReady ws q i out o₁ × (waitsOf (p .ended) (windowOf p i) ≡ waitsOf (q .ended) (windowOf q i))
 unfolding windowOf
-sent-ready {ws} {p} {q} i o {o₁} r h lo = go (p .filled - q .filled) (h .place)
+sent-ready {ws} {p} {q} i {out} o {o₁} r h lo = go (p .filled - q .filled) (h .place)
   where
     w : Within p
     w = r .within
 
     go : (sent : ℕ) → q ≡ sentFrom p sent
-        → TurnReady ws q i o₁ × (waitsOf (p .ended) (windowOf p i) ≡ waitsOf (q .ended) (windowOf q i))
+        → TurnReady ws q i out o₁ × (waitsOf (p .ended) (windowOf p i) ≡ waitsOf (q .ended) (windowOf q i))
     go sent e = rw e (
       record {
-        lent = record { sound = r .lent .sound; input = r .lent .input; output = lo ∙ r .lent .output };
+        lent = record {
+          sound = r .lent .sound;
+          input = r .lent .input;
+          room = r .lent .room;
+          output = lo ∙ r .lent .output;
+        };
         within = record { unread = w .unread; read = w .read; unwritten = omega (arith, w .unwritten) };
         number = r .number;
       },
@@ -268,7 +279,7 @@ module _ (p q : Place) (o o₁ : List ℕ) (in-place : Within p) (lo : length o 
       none t = nothing-due o₁ (q .filled) (room-none (q .filled) waiting room (e ∙ t))
 
   pub turns-failed : (traced : Bool) {ws : List ℕ} (i : List ℕ) → waiting ≡ waitsOf (p .ended) (windowOf p i)
-      → Sound ws → Within q → (roomFor (q .filled) waiting ≡ true → ⊥)
+      → SoundTable ws → Within q → (roomFor (q .filled) waiting ≡ true → ⊥)
       → Turns traced ws p i o
       (record { more = true; failed = true; unread = false; sent = sent; place = q }) ws i o₁
   turns-failed traced {ws} i e sound there room = record {

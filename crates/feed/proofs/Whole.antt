@@ -11,12 +11,11 @@ use Rattle.laws.specs.Lists.{Every, none}
 use Rattle.laws.specs.Upd.{ifb}
 use Rattle.laws.proofs.Lists.{every-append, flatten-append}
 use Rattle.records.specs.Layout.{checkOf}
-use Rattle.row.specs.Row.{stateOf}
+use Rattle.row.specs.Table.{tableOf, SoundTable}
 use Rattle.text.specs.Lines.{linesOf, textOf}
 use Rattle.text.proofs.LineLaws.{lines-nil}
 use Rattle.records.proofs.RunLaws.{ends}
-use Rattle.step.specs.Held.{Sound}
-use Rattle.feed.specs.Made.{StateMade}
+use Rattle.feed.specs.Made.{TableMade}
 use Rattle.buffers.specs.Place.{windowOf, unwrittenOf, waitsOf}
 use Rattle.feed.specs.Turn.{Stand, standAt, Takes, Turns}
 use Rattle.feed.specs.Whole.{Run, begun, turned, Reached, Broken, writtenBy, Ran, Answers}
@@ -26,7 +25,7 @@ use Rattle.feed.specs.declared.turning.Turned.{Turned}
 
 -- what is due at a place, where f is still to come
 abbrev due : Bool → Bool → Stand → List ℕ → List ℕ
-due traced more b f = b .unwritten ++ ifb more (linesOf traced (stateOf (b .words)) (b .number) (b .window ++ f)) []
+due traced more b f = b .unwritten ++ ifb more (linesOf traced (tableOf (b .words)) (b .number) (b .window ++ f)) []
 
 regroup : (o t r p x : List ℕ) → o ++ ((t ++ r) ++ (p ++ x)) ≡ (o ++ t) ++ ((r ++ p) ++ x)
 regroup o t r p x = simp append-assoc
@@ -38,7 +37,7 @@ regroup′ o t r p x = simp append-assoc
 run-text : {traced more : Bool} {n : ℕ} {ws input output : List ℕ} {b : Stand}
     → Run traced ws n input output more b
     → (f : List ℕ) → (b .ended ≡ true → f ≡ [])
-    → linesOf traced (stateOf ws) 0 (input ++ f) ≡ output ++ due traced more b f
+    → linesOf traced (tableOf ws) 0 (input ++ f) ≡ output ++ due traced more b f
 run-text begun f e = refl
 run-text {traced} {ws = ws} (turned {n} {input} {output} {a} sent {more} {b} r k) f e =
     rw (append-assoc input (k .got) f) (run-text r (k .got ++ f) later
@@ -47,13 +46,13 @@ run-text {traced} {ws = ws} (turned {n} {input} {output} {a} sent {more} {b} r k
     ∙ regroup output (take sent (a .unwritten)) (drop sent (a .unwritten)) (k .printed) rest))
   where
     rest : List ℕ
-    rest = ifb more (linesOf traced (stateOf (b .words)) (b .number) (b .window ++ f)) []
+    rest = ifb more (linesOf traced (tableOf (b .words)) (b .number) (b .window ++ f)) []
 
     later : a .ended ≡ true → k .got ++ f ≡ []
     later h = let z = k .end h in rw (z .1, e (z .0))
 
 -- where the program stops, what was written and what is unwritten are the whole text, whatever of the input is unread
-pub whole-text : {traced : Bool} {office n : ℕ} {ws input output : List ℕ} {b : Stand} → StateMade office true ws
+pub whole-text : {traced : Bool} {office n : ℕ} {ws input output : List ℕ} {b : Stand} → TableMade office true ws
     → Run traced ws n input output false b
     → (f : List ℕ) → (b .ended ≡ true → f ≡ []) → textOf traced (office ∷ (input ++ f)) ≡ output ++ b .unwritten
 whole-text {traced} {office} {ws} {input} {output} {b} m r f e =
@@ -65,8 +64,8 @@ record Sofar (traced : Bool) (ws input output : List ℕ) (b : Stand) : Type 0 w
   whole : Every (λ p. checkOf p ≡ 0) parts
   count : b .number ≡ length parts
   read : input ≡ flatten parts ++ b .window
-  lines : (f : List ℕ) → linesOf traced (stateOf ws) 0 (flatten parts ++ f)
-      ≡ (output ++ b .unwritten) ++ linesOf traced (stateOf (b .words)) (b .number) f
+  lines : (f : List ℕ) → linesOf traced (tableOf ws) 0 (flatten parts ++ f)
+      ≡ (output ++ b .unwritten) ++ linesOf traced (tableOf (b .words)) (b .number) f
 
 run-sofar : {traced more : Bool} {n : ℕ} {ws input output : List ℕ} {b : Stand} → Run traced ws n input output more b
     → more ≡ true → Sofar traced ws input output b
@@ -86,8 +85,8 @@ run-sofar {traced} {ws = ws} (turned {n} {input} {output} {a} sent {more} {b} r 
           ∙ ap (λ (l : List ℕ). flatten (s .parts) ++ l) (t .left)
           ∙ sym (append-assoc (flatten (s .parts)) (flatten (t .parts)) (b .window))
           ∙ ap (λ (l : List ℕ). l ++ b .window) (sym both);
-      lines = λ f. ap (λ (l : List ℕ). linesOf traced (stateOf ws) 0 (l ++ f)) both
-          ∙ ap (linesOf traced (stateOf ws) 0) (append-assoc (flatten (s .parts)) (flatten (t .parts)) f)
+      lines = λ f. ap (λ (l : List ℕ). linesOf traced (tableOf ws) 0 (l ++ f)) both
+          ∙ ap (linesOf traced (tableOf ws) 0) (append-assoc (flatten (s .parts)) (flatten (t .parts)) f)
           ∙ s .lines (flatten (t .parts) ++ f) ∙ ap (λ (l : List ℕ). (output ++ a .unwritten) ++ l) (t .lines f)
           ∙ rw (k .buffer)
           (ap (λ (u : List ℕ). (output ++ u) ++ (k .printed ++ after f)) (sym (take-append-drop sent (a .unwritten)))
@@ -98,10 +97,10 @@ run-sofar {traced} {ws = ws} (turned {n} {input} {output} {a} sent {more} {b} r 
         both = flatten-append (s .parts) (t .parts)
 
         after : List ℕ → List ℕ
-        after f = linesOf traced (stateOf (b .words)) (b .number) f
+        after f = linesOf traced (tableOf (b .words)) (b .number) f
 
 -- where the program goes on, it has answered records that came whole, and nothing else
-pub going-text : {traced : Bool} {office n : ℕ} {ws input output : List ℕ} {b : Stand} → StateMade office true ws
+pub going-text : {traced : Bool} {office n : ℕ} {ws input output : List ℕ} {b : Stand} → TableMade office true ws
     → Run traced ws n input output true b → Answers traced office input output b
 going-text {traced} {office} {ws} {input} {output} {b} m r =
     let s = run-sofar r refl in
@@ -111,13 +110,13 @@ going-text {traced} {office} {ws} {input} {output} {b} m r =
       count = s .count;
       read = s .read;
       text = m .text traced (flatten (s .parts))
-          ∙ ap (linesOf traced (stateOf ws) 0) (sym (append-nil (flatten (s .parts)))) ∙ s .lines []
-          ∙ rw (lines-nil traced (stateOf (b .words)) (b .number) [] refl) (append-nil (output ++ b .unwritten));
+          ∙ ap (linesOf traced (tableOf ws) 0) (sym (append-nil (flatten (s .parts)))) ∙ s .lines []
+          ∙ rw (lines-nil traced (tableOf (b .words)) (b .number) [] refl) (append-nil (output ++ b .unwritten));
       rest = λ t. ends (b .window) (waits-none (b .ended) (b .window) t);
     }
 
 -- so it is where a fault has ended the run; where a read failed, all is written
-pub fault-text : {traced unread : Bool} {office : ℕ} {ws : List ℕ} {b : Stand} → StateMade office true ws
+pub fault-text : {traced unread : Bool} {office : ℕ} {ws : List ℕ} {b : Stand} → TableMade office true ws
     → (k : Broken traced ws unread b)
     → Answers traced office (k .input) (writtenBy k) b × (unread ≡ true → b .unwritten ≡ [])
 fault-text {b = b} m k =
@@ -137,7 +136,7 @@ fault-text {b = b} m k =
     )
 
 -- the loop begins, and a turn goes on
-pub ran-begun : (traced : Bool) {ws : List ℕ} (i o : List ℕ) → Sound ws
+pub ran-begun : (traced : Bool) {ws : List ℕ} (i o : List ℕ) → SoundTable ws
     → Ran traced ws ws (record { ended = false; at = 0; end = 0; filled = 0; number = 0 }) i o true false false
     (2 ^ 64 - 1)
 unfolding windowOf unwrittenOf

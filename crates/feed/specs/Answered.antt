@@ -4,10 +4,11 @@ use mathlib.Core.Bool.{Bool, false}
 use mathlib.Core.List.{List, _++_}
 use lib.ListN.{length}
 use Prim.Native.Nat.{ℕ, _+_, _≤_}
-use Rattle.rules.specs.Refusals.{fullRoom, stepOf}
-use Rattle.row.specs.Row.{stateOf}
+use Rattle.records.specs.Layout.{roomOf}
+use Rattle.rules.specs.Refusals.{fullRoom}
+use Rattle.rules.specs.Tables.{stepTable}
+use Rattle.row.specs.Table.{tableOf, SoundTable}
 use Rattle.text.specs.Lines.{lineFor, goesOn}
-use Rattle.step.specs.Held.{Sound}
 use Rattle.buffers.specs.Room.{bufferLength}
 use Rattle.buffers.specs.Place.{unwrittenOf}
 use Rattle.buffers.specs.declared.input.Place.{Place}
@@ -16,9 +17,9 @@ use Rattle.feed.specs.declared.answering.Advanced.{Advanced}
 -- the record b is answered by the step, with full room: its line stands behind what is unwritten
 pub record Answered (traced : Bool) (ws : List ℕ) (p : Place) (b o : List ℕ) (r : Advanced)
     (ws′ o′ : List ℕ) : Type 0 where
-  pub sound : Sound ws′
-  pub state : stateOf ws′ ≡ stepOf (stateOf ws) b fullRoom .state
-  pub more : r .more ≡ goesOn (stepOf (stateOf ws) b fullRoom .refusal)
+  pub sound : SoundTable ws′
+  pub table : tableOf ws′ ≡ stepTable (tableOf ws) b fullRoom .table
+  pub more : r .more ≡ goesOn (stepTable (tableOf ws) b fullRoom .refusal)
   pub unread : r .unread ≡ false
   pub ended : r .place .ended ≡ p .ended
   pub at : r .place .at ≡ p .at + length b
@@ -26,4 +27,4 @@ pub record Answered (traced : Bool) (ws : List ℕ) (p : Place) (b o : List ℕ)
   pub filled : r .place .filled ≤ bufferLength
   pub number : r .place .number ≡ p .number + 1
   pub line : unwrittenOf (r .place) o′
-      ≡ unwrittenOf p o ++ lineFor traced (p .number + 1) (stepOf (stateOf ws) b fullRoom)
+      ≡ unwrittenOf p o ++ lineFor traced (p .number + 1) (roomOf b) (stepTable (tableOf ws) b fullRoom)

@@ -9,16 +9,15 @@ use Rattle.laws.specs.Lists.{Every}
 use Rattle.laws.specs.Upd.{ifb}
 use Rattle.records.specs.Layout.{checkOf}
 use Rattle.records.specs.Run.{runCheck}
-use Rattle.row.specs.Row.{stateOf}
+use Rattle.row.specs.Table.{tableOf, SoundTable}
 use Rattle.text.specs.Lines.{frontOf, linesOf}
-use Rattle.step.specs.Held.{Sound}
 use Rattle.buffers.specs.Place.{Within, windowOf, unwrittenOf, waitsOf}
 use Rattle.buffers.specs.declared.input.Place.{Place}
 use Rattle.buffers.specs.Room.{roomFor}
 use Rattle.feed.specs.declared.answering.Advanced.{Advanced}
 use Rattle.feed.specs.declared.turning.Turned.{Turned}
 
--- where a run stands: the row, whether the input has ended, the records answered, the bytes unanswered and unwritten
+-- where a run stands: the table, whether the input has ended, the records answered, the bytes unanswered and unwritten
 pub record Stand : Type 0 where
   pub words : List ℕ
   pub ended : Bool
@@ -47,8 +46,8 @@ pub record Takes (traced : Bool) (ws : List ℕ) (n : ℕ) (b printed ws′ : Li
   pub whole : Every (λ p. checkOf p ≡ 0) parts
   pub count : n′ ≡ n + length parts
   pub left : b ≡ flatten parts ++ w′
-  pub lines : (f : List ℕ) → linesOf traced (stateOf ws) n (flatten parts ++ f)
-      ≡ printed ++ linesOf traced (stateOf ws′) n′ f
+  pub lines : (f : List ℕ) → linesOf traced (tableOf ws) n (flatten parts ++ f)
+      ≡ printed ++ linesOf traced (tableOf ws′) n′ f
 
 -- The text that is due stays due. `got` was read, `printed` was put behind what is unwritten. The text for what was
 -- read and for all later bytes f, of which there are none once the input has ended, is what was printed and the text
@@ -59,8 +58,8 @@ pub record Keeps (traced : Bool) (ws : List ℕ) (ended : Bool) (n : ℕ) (w u :
   pub printed : List ℕ
   pub buffer : u′ ≡ u ++ printed
   pub text : (f : List ℕ) → (ended′ ≡ true → f ≡ [])
-      → linesOf traced (stateOf ws) n (w ++ (got ++ f))
-      ≡ printed ++ ifb more (linesOf traced (stateOf ws′) n′ (w′ ++ f)) []
+      → linesOf traced (tableOf ws) n (w ++ (got ++ f))
+      ≡ printed ++ ifb more (linesOf traced (tableOf ws′) n′ (w′ ++ f)) []
   -- where the program goes on, each record answered came whole
   pub takes : more ≡ true → Takes traced ws n (w ++ got) printed ws′ n′ w′
   pub end : ended ≡ true → (ended′ ≡ true) × (got ≡ [])
@@ -75,7 +74,7 @@ pub record Keeps (traced : Bool) (ws : List ℕ) (ended : Bool) (n : ℕ) (w u :
 pub record Advances (traced : Bool) (ws : List ℕ) (p : Place) (i o : List ℕ) (r : Advanced)
     (ws′ i′ o′ : List ℕ) : Type 0 where
   pub within : Within (r .place)
-  pub sound : Sound ws′
+  pub sound : SoundTable ws′
   pub number : r .place .number ≤ p .number + 1
   -- a read fails only where the program waits; then all stays, and the program stops
   pub unread : r .unread ≡ true → (waitsOf (p .ended) (windowOf p i) ≡ true) × (r .more ≡ false)
@@ -88,7 +87,7 @@ pub record Advances (traced : Bool) (ws : List ℕ) (p : Place) (i o : List ℕ)
 pub record Turns (traced : Bool) (ws : List ℕ) (p : Place) (i o : List ℕ) (r : Turned)
     (ws′ i′ o′ : List ℕ) : Type 0 where
   pub within : Within (r .place)
-  pub sound : Sound ws′
+  pub sound : SoundTable ws′
   pub number : r .place .number ≤ p .number + 1
   pub sent : r .sent ≤ length (unwrittenOf p o)
   -- nothing is written while a line has room, unless the program waits

@@ -3,19 +3,21 @@ use mathlib.Core.Path.{_≡_}
 use mathlib.Core.List.{List}
 use Prim.Native.Nat.{ℕ, _+_, _^_, _<_}
 use lib.ListN.{length}
+use Rattle.rules.specs.Refusals.{fullRoom}
+use Rattle.row.specs.Table.{SoundTable}
 use Rattle.buffers.specs.Room.{bufferLength}
 use Rattle.buffers.specs.Place.{Within}
 use Rattle.buffers.specs.declared.input.Place.{Place}
-use Rattle.step.specs.Held.{Sound}
 
--- what the program lends to its turns: a sound row and two whole buffers
-pub record Lent (ws i o : List ℕ) : Type 0 where
-  pub sound : Sound ws
+-- what the program lends to its turns: a sound table, room for what one event writes, and two whole buffers
+pub record Lent (ws i out o : List ℕ) : Type 0 where
+  pub sound : SoundTable ws
   pub input : length i ≡ bufferLength
+  pub room : length out ≡ fullRoom
   pub output : length o ≡ bufferLength
 
 -- the program stands within them, and has a number for one record more
-pub record TurnReady (ws : List ℕ) (p : Place) (i o : List ℕ) : Type 0 where
-  pub lent : Lent ws i o
+pub record TurnReady (ws : List ℕ) (p : Place) (i out o : List ℕ) : Type 0 where
+  pub lent : Lent ws i out o
   pub within : Within p
   pub number : p .number + 1 < 2 ^ 64

@@ -8,7 +8,7 @@ use lib.ListN.{length, take, drop}
 use Rattle.laws.specs.Lists.{Every}
 use Rattle.records.specs.Layout.{checkOf}
 use Rattle.records.specs.Run.{Ends}
-use Rattle.step.specs.Held.{Sound}
+use Rattle.row.specs.Table.{SoundTable}
 use Rattle.text.specs.Lines.{textOf}
 use Rattle.buffers.specs.Place.{Within, waitsOf}
 use Rattle.feed.specs.Turn.{Stand, standAt, sentAt, Keeps}
@@ -17,7 +17,7 @@ use Rattle.buffers.specs.declared.input.Place.{Place}
 abbrev pub start : List ℕ → Stand
 start ws = record { words = ws; ended = false; number = 0; window = []; unwritten = [] }
 
--- Run traced ws n input output more b: n turns from the row ws on have read input, written output, and stand at b;
+-- Run traced ws n input output more b: n turns from the table ws on have read input, written output, and stand at b;
 -- more says whether the program goes on
 pub data Run (traced : Bool) (ws : List ℕ) : ℕ → List ℕ → List ℕ → Bool → Stand → Type 0 where
   begun : Run traced ws 0 [] [] true (start ws)
@@ -55,7 +55,7 @@ writtenBy k = k .output ++ take (k .sent) (k .place .unwritten)
 -- goes on
 pub record Ran (traced : Bool) (ws₀ ws : List ℕ) (p : Place) (i o : List ℕ) (more failed unread : Bool)
     (left : ℕ) : Type 0 where
-  pub sound : Sound ws
+  pub sound : SoundTable ws
   pub within : Within p
   pub number : p .number + left < 2 ^ 64
   pub reached : failed ≡ false → unread ≡ false → Reached traced ws₀ more left (standAt ws p i o)

@@ -3,10 +3,17 @@ use buffers::input::Place;
 use buffers::input::front;
 use buffers::progress::told;
 use step::held::step_held;
-use step::view_number;
+use step::held::view_number;
 use text::lines::goes_on;
-ghost use Prim.Native.Nat.{_+_, _≤_};
-ghost use Rattle.text.specs.Lines.{frontOf};
+use text::lines::roomless;
+ghost use mathlib.Core.Path.{_≡_};
+ghost use mathlib.Core.Bool.{false};
+ghost use Prim.Native.Nat.{_+_, _≤_, _<_};
+ghost use Rattle.laws.specs.Upd.{ifb};
+ghost use Rattle.records.specs.Numbers.{roomCount};
+ghost use Rattle.records.specs.Layout.{roomOf};
+ghost use Rattle.row.specs.Table.{tableOf, SoundTable};
+ghost use Rattle.text.specs.Lines.{frontOf, roomless};
 ghost use Rattle.buffers.specs.Room.{bufferLength, mostLine};
 ghost use Rattle.buffers.specs.Place.{windowOf};
 ghost use Rattle.feed.specs.TurnReady.{TurnReady};
@@ -19,23 +26,37 @@ pub struct Advanced {
     pub place: Place,
 }
 
+// The current view number of the record's room, 0 where it is of none.
+fn view_for(table: &[u32], record: &[u8], refusal: u8) -> u32
+    requires { ⌜ SoundTable (now table) × (roomless refusal ≡ false → roomOf (now «record») < roomCount) ⌝ }
+    ensures { λ r. ⌜ r ≡ ifb (roomless refusal) 0
+        (tableOf (now (table .entry)) (roomOf (now («record» .entry))) .view .number) ⌝ }
+{
+    if roomless(refusal) {
+        return 0;
+    }
+    let room = records::room_of(record);
+    view_number(table, room)
+}
+
 // The record in front through the step, and its line.
 pub fn answer(
-    state: &mut [u32],
+    table: &mut [u32],
     p: Place,
     input: &[u8],
+    out: &mut [u8],
     output: &mut [u8],
     traced: bool,
 ) -> Advanced
-    requires { ⌜ TurnReady (now state) p (now input) (now output) × (p .filled + mostLine ≤ bufferLength) ⌝ }
-    ensures { λ r. ⌜ Answered traced (now (state .entry)) p (frontOf (windowOf p (now (input .entry))))
-        (now (output .entry)) r (now (state .exit)) (now (output .exit)) ⌝ }
+    requires { ⌜ TurnReady (now table) p (now input) (now out) (now output)
+        × (p .filled + mostLine ≤ bufferLength) ⌝ }
+    ensures { λ r. ⌜ Answered traced (now (table .entry)) p (frontOf (windowOf p (now (input .entry))))
+        (now (output .entry)) r (now (table .exit)) (now (output .exit)) ⌝ }
 {
-    let mut out = [0u8; step::ROOM];
     let record = front(input, p.at, p.end);
-    let a = step_held(state, record, &mut out);
-    let view = view_number(state);
-    let place = told(p, record.len(), a, view, &out, output, traced);
+    let a = step_held(table, record, out);
+    let view = view_for(table, record, a.refusal);
+    let place = told(p, record.len(), a, view, out, output, traced);
     Advanced {
         more: goes_on(a.refusal),
         unread: false,

@@ -8,13 +8,13 @@ ghost use mathlib.Core.Path.{_≡_};
 ghost use Prim.Native.Nat.{_-_, _<_, _≤_};
 ghost use lib.ListN.{length};
 ghost use Rattle.laws.specs.Upd.{ifb};
-ghost use Rattle.row.specs.Row.{rowLength};
+ghost use Rattle.row.specs.Table.{tableLength};
 ghost use Rattle.text.specs.Lines.{noOffice};
-ghost use Rattle.feed.specs.Made.{StateMade};
+ghost use Rattle.feed.specs.Made.{TableMade};
 ghost use Rattle.feed.specs.TurnReady.{Lent};
 ghost use Rattle.feed.specs.Whole.{Ran};
 
-// A record answered: the state that the program holds, and the line behind what is unwritten.
+// A record answered: the table that the program holds, and the line behind what is unwritten.
 mod answering;
 
 // A turn: what is due is written, then more is read or a record answered.
@@ -41,9 +41,15 @@ fn turns_left(more: bool, failed: bool, turns: u64) -> u64
 }
 
 // Turn after turn, until the input has ended, a record is refused by 4 or 5, or a read or a write fails.
-fn turns(state: &mut [u32], input: &mut [u8], output: &mut [u8], traced: bool) -> Ended
-    requires { ⌜ Lent (now state) (now input) (now output) ⌝ }
-    ensures { λ r. ⌜ Ran traced (now (state .entry)) (now (state .exit)) (r .place) (now (input .exit))
+fn turns(
+    table: &mut [u32],
+    input: &mut [u8],
+    out: &mut [u8],
+    output: &mut [u8],
+    traced: bool,
+) -> Ended
+    requires { ⌜ Lent (now table) (now input) (now out) (now output) ⌝ }
+    ensures { λ r. ⌜ Ran traced (now (table .entry)) (now (table .exit)) (r .place) (now (input .exit))
         (now (output .exit)) (r .more) (r .failed) (r .unread) 0 ⌝ }
 {
     let mut place = Place {
@@ -58,7 +64,7 @@ fn turns(state: &mut [u32], input: &mut [u8], output: &mut [u8], traced: bool) -
     let mut unread = false;
     let mut left = u64::MAX;
     while left > 0 {
-        let t = turn(state, place, input, output, traced);
+        let t = turn(table, place, input, out, output, traced);
         let next = t.place;
         place = next;
         more = t.more;
@@ -105,10 +111,10 @@ fn finish(output: &[u8], filled: usize, failed: bool, unread: bool)
     }
 }
 
-fn serve(state: &mut [u32], input: &mut [u8], output: &mut [u8], traced: bool)
-    requires { ⌜ Lent (now state) (now input) (now output) ⌝ }
+fn serve(table: &mut [u32], input: &mut [u8], out: &mut [u8], output: &mut [u8], traced: bool)
+    requires { ⌜ Lent (now table) (now input) (now out) (now output) ⌝ }
 {
-    let e = turns(state, input, output, traced);
+    let e = turns(table, input, out, output, traced);
     let place = e.place;
     finish(output, place.filled, e.failed, e.unread);
 }
@@ -136,18 +142,18 @@ fn first_byte() -> First {
     }
 }
 
-// Whether the office has a state, which the row then holds, fresh.
-fn make_state(office: u8, state: &mut [u32]) -> bool
-    requires { ⌜ length (now state) ≡ rowLength ⌝ }
-    ensures { λ r. ⌜ StateMade office r (now (state .exit)) ⌝ }
+// Whether the office can be served; the table then holds its fresh states.
+fn make_table(office: u8, table: &mut [u32]) -> bool
+    requires { ⌜ length (now table) ≡ tableLength ⌝ }
+    ensures { λ r. ⌜ TableMade office r (now (table .exit)) ⌝ }
 {
-    step::fresh(office, state) == 0
+    step::fresh(office, table) == 0
 }
 
 // The office served, or the one line where there is none.
 fn open(office: u8, traced: bool) {
-    let mut state = [0u32; step::WORDS];
-    if !make_state(office, &mut state) {
+    let mut table = [0u32; step::WORDS];
+    if !make_table(office, &mut table) {
         if flush(1, &no_office()) < 8 {
             tell_unwritten();
         }
@@ -155,7 +161,8 @@ fn open(office: u8, traced: bool) {
     }
     let mut input = io::large_buffer();
     let mut output = io::large_buffer();
-    serve(&mut state, &mut input, &mut output, traced);
+    let mut out = [0u8; step::ROOM];
+    serve(&mut table, &mut input, &mut out, &mut output, traced);
 }
 
 // The program; `traced` has the bytes written behind each line. The first argument is its own name.

@@ -25,17 +25,18 @@ pub struct Turned {
 
 // More of the input where that can change what stands in front; else the record in front; nothing at the input's end.
 fn advance(
-    state: &mut [u32],
+    table: &mut [u32],
     p: Place,
     input: &mut [u8],
+    out: &mut [u8],
     output: &mut [u8],
     waiting: bool,
     traced: bool,
 ) -> Advanced
-    requires { ⌜ TurnReady (now state) p (now input) (now output)
+    requires { ⌜ TurnReady (now table) p (now input) (now out) (now output)
         × (waiting ≡ waitsOf (p .ended) (windowOf p (now input))) × (roomFor (p .filled) waiting ≡ true) ⌝ }
-    ensures { λ r. ⌜ Advances traced (now (state .entry)) p (now (input .entry)) (now (output .entry)) r
-        (now (state .exit)) (now (input .exit)) (now (output .exit)) ⌝ }
+    ensures { λ r. ⌜ Advances traced (now (table .entry)) p (now (input .entry)) (now (output .entry)) r
+        (now (table .exit)) (now (input .exit)) (now (output .exit)) ⌝ }
 {
     if waiting {
         let grown = refill(p, input);
@@ -53,25 +54,26 @@ fn advance(
             place: p,
         };
     }
-    answer(state, p, input, output, traced)
+    answer(table, p, input, out, output, traced)
 }
 
 pub fn turn(
-    state: &mut [u32],
+    table: &mut [u32],
     p: Place,
     input: &mut [u8],
+    out: &mut [u8],
     output: &mut [u8],
     traced: bool,
 ) -> Turned
-    requires { ⌜ TurnReady (now state) p (now input) (now output) ⌝ }
-    ensures { λ r. ⌜ Turns traced (now (state .entry)) p (now (input .entry)) (now (output .entry)) r
-        (now (state .exit)) (now (input .exit)) (now (output .exit)) ⌝ }
+    requires { ⌜ TurnReady (now table) p (now input) (now out) (now output) ⌝ }
+    ensures { λ r. ⌜ Turns traced (now (table .entry)) p (now (input .entry)) (now (output .entry)) r
+        (now (table .exit)) (now (input .exit)) (now (output .exit)) ⌝ }
 {
     let waiting = waits(p, input);
     let q = emptied(p, output, waiting);
     let sent = p.filled - q.filled;
     if has_room(q.filled, waiting) {
-        let advanced = advance(state, q, input, output, waiting, traced);
+        let advanced = advance(table, q, input, out, output, waiting, traced);
         let next = advanced.place;
         Turned {
             more: advanced.more,

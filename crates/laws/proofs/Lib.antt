@@ -2,6 +2,7 @@
 pub mod Big
 pub mod Bit
 pub mod Checks
+pub mod Cuts
 pub mod Fin
 pub mod Grid
 pub mod Loops

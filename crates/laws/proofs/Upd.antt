@@ -24,6 +24,10 @@ module _ {A : Type 0} where
       go (yes e) = rw (e, upd-same) at
       go (no n) = rw (upd-other f i v j n) (other n)
 
+  -- what stands there already changes nothing
+  pub upd-self : (f : ℕ → A) (i : ℕ) → upd f i (f i) ≡ f
+  upd-self f i = λ t j. upd-cases (λ (j : ℕ) (v : A). v ≡ f j) f i (f i) j refl (λ n. refl) t
+
   -- two functions that agree at a place agree there after the same update
   pub upd-agree : (f g : ℕ → A) (i : ℕ) (v : A) (j : ℕ) → f j ≡ g j → upd f i v j ≡ upd g i v j
   unfolding upd

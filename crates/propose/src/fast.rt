@@ -64,15 +64,16 @@ fn has_recipient(p: Proposal) -> bool
 }
 
 // For an office with a seat in the net view.
-pub fn proposes_fast(s: &mut [u32], out: &mut [u8], at: usize) -> usize
+pub fn proposes_fast(s: &mut [u32], out: &mut [u8], at: usize, room: u8) -> usize
     requires { ⌜ Row (now s) × Bounded reach (stateOf (now s))
         × Fits proposesFast (now s) (now out) at × (seated (stateOf (now s)) ≡ true) ⌝ }
-    ensures { λ n. ⌜ Did proposesFast (now (s .entry)) (now (out .entry)) at (now (s .exit)) (now (out .exit)) n ⌝ }
+    ensures { λ n. ⌜ Did room proposesFast (now (s .entry)) (now (out .entry)) at (now (s .exit))
+        (now (out .exit)) n ⌝ }
 {
     let p = own_proposal(s, FAST, next_number(s));
     keep_own(s, FAST, p);
     if !has_recipient(p) {
         return at;
     }
-    at + write_proposal(out, at, p)
+    at + write_proposal(out, at, p, room)
 }

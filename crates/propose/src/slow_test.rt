@@ -12,28 +12,29 @@ ghost use Rattle.row.specs.Row.{Row, stateOf};
 ghost use Rattle.event_parts.specs.Did.{Did, Fits};
 ghost use Rattle.event_parts.specs.Bounds.{early, reach, Bounded};
 
-fn proposes_slow(s: &mut [u32], out: &mut [u8], at: usize) -> usize
+fn proposes_slow(s: &mut [u32], out: &mut [u8], at: usize, room: u8) -> usize
     requires { ⌜ Row (now s) × Bounded reach (stateOf (now s)) × Fits proposesSlow (now s) (now out) at ⌝ }
-    ensures { λ n. ⌜ Did proposesSlow (now (s .entry)) (now (out .entry)) at (now (s .exit)) (now (out .exit)) n ⌝ }
+    ensures { λ n. ⌜ Did room proposesSlow (now (s .entry)) (now (out .entry)) at (now (s .exit))
+        (now (out .exit)) n ⌝ }
 {
     let a = look_at_all(s);
     let n = slow_number(row::number(s), a);
     let p = own_proposal(s, SLOW, n);
     keep_own(s, SLOW, p);
-    at + write_proposal(out, at, p)
+    at + write_proposal(out, at, p, room)
 }
 
 // Where no agreement is under way the start number rises first.
-pub fn slow_test(s: &mut [u32], out: &mut [u8], at: usize) -> usize
+pub fn slow_test(s: &mut [u32], out: &mut [u8], at: usize, room: u8) -> usize
     requires { ⌜ Row (now s) × Bounded early (stateOf (now s)) × Fits slowTest (now s) (now out) at ⌝ }
-    ensures { λ n. ⌜ Did slowTest (now (s .entry)) (now (out .entry)) at (now (s .exit)) (now (out .exit)) n ⌝ }
+    ensures { λ n. ⌜ Did room slowTest (now (s .entry)) (now (out .entry)) at (now (s .exit)) (now (out .exit)) n ⌝ }
 {
     if row::mode(s) == 0 {
-        let next = opens(s, out, at);
-        return proposes_slow(s, out, next);
+        let next = opens(s, out, at, room);
+        return proposes_slow(s, out, next, room);
     }
     if slow_called(s) {
-        return proposes_slow(s, out, at);
+        return proposes_slow(s, out, at, room);
     }
     at
 }

@@ -51,7 +51,7 @@ pub fn get_sixteen(bytes: &[u8], at: usize) -> [u32; 16]
 }
 
 // How many bytes of `len` lie from `at` on.
-pub fn room(len: usize, at: usize) -> usize
+pub fn space(len: usize, at: usize) -> usize
     ensures { λ r. ⌜ r ≡ len - at ⌝ }
 {
     if at <= len { len - at } else { 0 }

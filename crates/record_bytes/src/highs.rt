@@ -2,7 +2,7 @@
 use crate::bytes::get32;
 use crate::bytes::put_mark;
 use crate::bytes::put32;
-use crate::bytes::room;
+use crate::bytes::space;
 use crate::own_checks::accepted;
 use crate::own_checks::check_own;
 use records::High;
@@ -48,7 +48,7 @@ pub fn read_high(bytes: &[u8]) -> HighRead
 pub fn write_high(out: &mut [u8], at: usize, high: High) -> usize
     ensures { λ r. ⌜ Placed (now (out .entry)) at (encodeHigh high) r (now (out .exit)) ⌝ }
 {
-    if room(out.len(), at) < layout::HIGH_LENGTH {
+    if space(out.len(), at) < layout::HIGH_LENGTH {
         return 0;
     }
     put_mark(out, at, &layout::HIGH_MARK);

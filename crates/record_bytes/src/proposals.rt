@@ -8,20 +8,22 @@ use crate::bytes::put_sixteen;
 use crate::bytes::put8;
 use crate::bytes::put32;
 use crate::bytes::put64;
-use crate::bytes::room;
+use crate::bytes::space;
 use crate::own_checks::accepted;
 use crate::own_checks::check_own;
 use records::Proposal;
 use records::layout;
+use records::room_of;
 use seats::SeatSet;
 ghost use mathlib.Core.Path.{_≡_};
 ghost use Rattle.records.specs.Layout.{proposalLength, encodeProposal, decodeProposal, sized};
 ghost use Rattle.records.specs.Write.{Placed};
 ghost use Rattle.record_bytes.specs.proposals.Read.{readProposal};
 
-// What the reader answers: the number by checks 4 and 5, and the record, zeros where it is refused.
+// What the reader answers: the number by checks 4 and 5, the room and the record, zeros where it is refused.
 pub struct ProposalRead {
     pub refusal: u8,
+    pub room: u8,
     pub proposal: Proposal,
 }
 
@@ -55,21 +57,24 @@ pub fn read_proposal(bytes: &[u8]) -> ProposalRead
     ensures { λ r. ⌜ r ≡ readProposal (now (bytes .entry)) ⌝ }
 {
     let refusal = check_own(&layout::PROPOSAL_MARK, layout::PROPOSAL_LENGTH, bytes);
+    let own = accepted(refusal, bytes);
     ProposalRead {
         refusal,
-        proposal: decode_proposal(accepted(refusal, bytes)),
+        room: room_of(own),
+        proposal: decode_proposal(own),
     }
 }
 
 // The record at a place of the output, or nothing where it has no room there. The count of bytes written comes back.
-pub fn write_proposal(out: &mut [u8], at: usize, p: Proposal) -> usize
-    ensures { λ n. ⌜ Placed (now (out .entry)) at (encodeProposal p) n (now (out .exit)) ⌝ }
+pub fn write_proposal(out: &mut [u8], at: usize, p: Proposal, room: u8) -> usize
+    ensures { λ n. ⌜ Placed (now (out .entry)) at (encodeProposal room p) n (now (out .exit)) ⌝ }
 {
-    if room(out.len(), at) < layout::PROPOSAL_LENGTH {
+    if space(out.len(), at) < layout::PROPOSAL_LENGTH {
         return 0;
     }
     let used = p.used;
     put_mark(out, at, &layout::PROPOSAL_MARK);
+    put8(out, at, layout::ROOM, room);
     put8(out, at, layout::SENDER, p.sender);
     put8(out, at, layout::KIND, p.kind);
     put64(out, at, layout::PROPOSAL_MEMBERS, p.members.bits);

@@ -3,7 +3,7 @@ use crate::bytes::get32;
 use crate::bytes::put_mark;
 use crate::bytes::put8;
 use crate::bytes::put32;
-use crate::bytes::room;
+use crate::bytes::space;
 use crate::own_checks::accepted;
 use crate::own_checks::check_own;
 use records::Sync;
@@ -51,7 +51,7 @@ pub fn read_sync(bytes: &[u8]) -> SyncRead
 pub fn write_sync(out: &mut [u8], at: usize, sync: Sync) -> usize
     ensures { λ r. ⌜ Placed (now (out .entry)) at (encodeSync sync) r (now (out .exit)) ⌝ }
 {
-    if room(out.len(), at) < layout::SYNC_LENGTH {
+    if space(out.len(), at) < layout::SYNC_LENGTH {
         return 0;
     }
     put_mark(out, at, &layout::SYNC_MARK);

@@ -36,60 +36,64 @@ syncMark = 0x53 ∷ 0x59 ∷ []
 abbrev pub highMark : List ℕ
 highMark = 0x48 ∷ 0x4d ∷ []
 
--- report, 18 bytes: 2-9 joining, 10-17 leaving
+-- the room, the byte after the mark of a report, a proposal, a start notice or a view; it may be any byte here
+abbrev pub roomPlace : ℕ
+roomPlace = 2
+
+-- report, 19 bytes: 3-10 joining, 11-18 leaving
 abbrev pub joiningPlace : ℕ
-joiningPlace = 2
+joiningPlace = 3
 
 abbrev pub leavingPlace : ℕ
-leavingPlace = 10
+leavingPlace = 11
 
 abbrev pub reportLength : ℕ
-reportLength = 18
+reportLength = 19
 
--- proposal, 84 bytes: 2 sender, 3 kind, 4-11 members, 12-15 start number, 16-19 proposal number, 20-83 used numbers
+-- proposal, 85 bytes: 3 sender, 4 kind, 5-12 members, 13-16 start number, 17-20 proposal number, 21-84 used numbers
 abbrev pub senderPlace : ℕ
-senderPlace = 2
+senderPlace = 3
 
 abbrev pub kindPlace : ℕ
-kindPlace = 3
+kindPlace = 4
 
 abbrev pub proposalMembersPlace : ℕ
-proposalMembersPlace = 4
+proposalMembersPlace = 5
 
 abbrev pub proposalStartPlace : ℕ
-proposalStartPlace = 12
+proposalStartPlace = 13
 
 abbrev pub proposalNumberPlace : ℕ
-proposalNumberPlace = 16
+proposalNumberPlace = 17
 
 abbrev pub usedPlace : ℕ
-usedPlace = 20
+usedPlace = 21
 
 abbrev pub proposalLength : ℕ
-proposalLength = 84
+proposalLength = 85
 
--- start notice, 14 bytes: 2-5 start number, 6-13 suggested members
+-- start notice, 15 bytes: 3-6 start number, 7-14 suggested members
 abbrev pub noticeStartPlace : ℕ
-noticeStartPlace = 2
+noticeStartPlace = 3
 
 abbrev pub noticeMembersPlace : ℕ
-noticeMembersPlace = 6
+noticeMembersPlace = 7
 
 abbrev pub noticeLength : ℕ
-noticeLength = 14
+noticeLength = 15
 
--- view, 78 bytes: 2-5 view number, 6-13 members, 14-77 sixteen start numbers
+-- view, 79 bytes: 3-6 view number, 7-14 members, 15-78 sixteen start numbers
 abbrev pub viewNumberPlace : ℕ
-viewNumberPlace = 2
+viewNumberPlace = 3
 
 abbrev pub viewMembersPlace : ℕ
-viewMembersPlace = 6
+viewMembersPlace = 7
 
 abbrev pub startsPlace : ℕ
-startsPlace = 14
+startsPlace = 15
 
 abbrev pub viewLength : ℕ
-viewLength = 78
+viewLength = 79
 
 -- sync record, 11 bytes: 2 seat, 3-6 start number, 7-10 previous view number
 abbrev pub syncSeatPlace : ℕ
@@ -122,15 +126,20 @@ seatsAt b at = record { bits = big8 b at }
 abbrev pub sixteenAt : List ℕ → ℕ → List ℕ
 sixteenAt b at = tab 16 (λ o. big4 b (at + 4 * o))
 
-unfoldable pub encodeReport : Report → List ℕ
-encodeReport r = reportMark ++ bytes8 (r .joining .bits) ++ bytes8 (r .leaving .bits)
+-- the room that bytes name, 0 where there is none
+unfoldable pub roomOf : List ℕ → ℕ
+roomOf b = getD b roomPlace 0
+
+-- A record of a room: the room stands beside it.
+unfoldable pub encodeReport : ℕ → Report → List ℕ
+encodeReport room r = reportMark ++ (room ∷ []) ++ bytes8 (r .joining .bits) ++ bytes8 (r .leaving .bits)
 
 unfoldable pub decodeReport : List ℕ → Report
 decodeReport b = record { joining = seatsAt b joiningPlace; leaving = seatsAt b leavingPlace }
 
-unfoldable pub encodeProposal : Proposal → List ℕ
-encodeProposal p =
-    proposalMark ++ (p .sender ∷ p .kind ∷ []) ++ bytes8 (p .members .bits) ++ bytes4 (p .start) ++ bytes4 (p .number)
+unfoldable pub encodeProposal : ℕ → Proposal → List ℕ
+encodeProposal room p =
+    proposalMark ++ (room ∷ p .sender ∷ p .kind ∷ []) ++ bytes8 (p .members .bits) ++ bytes4 (p .start) ++ bytes4 (p .number)
     ++ bytesAll (p .used)
 
 unfoldable pub decodeProposal : List ℕ → Proposal
@@ -144,14 +153,15 @@ decodeProposal b =
       used = sixteenAt b usedPlace;
     }
 
-unfoldable pub encodeNotice : Notice → List ℕ
-encodeNotice n = noticeMark ++ bytes4 (n .start) ++ bytes8 (n .members .bits)
+unfoldable pub encodeNotice : ℕ → Notice → List ℕ
+encodeNotice room n = noticeMark ++ (room ∷ []) ++ bytes4 (n .start) ++ bytes8 (n .members .bits)
 
 unfoldable pub decodeNotice : List ℕ → Notice
 decodeNotice b = record { start = big4 b noticeStartPlace; members = seatsAt b noticeMembersPlace }
 
-unfoldable pub encodeView : View → List ℕ
-encodeView v = viewMark ++ bytes4 (v .number) ++ bytes8 (v .members .bits) ++ bytesAll (v .starts)
+unfoldable pub encodeView : ℕ → View → List ℕ
+encodeView room v =
+    viewMark ++ (room ∷ []) ++ bytes4 (v .number) ++ bytes8 (v .members .bits) ++ bytesAll (v .starts)
 
 unfoldable pub decodeView : List ℕ → View
 decodeView b =

@@ -1,4 +1,4 @@
--- L, the rooms, and the two checks that the sixteen numbers of a record meet wherever it is read.
+-- L, and the two checks that the sixteen numbers of a record meet wherever it is read.
 use mathlib.Core.Bool.{Bool, _&&_, not}
 use mathlib.Core.List.{List}
 use Prim.Native.Nat.{ℕ}
@@ -15,13 +15,13 @@ limit = 2_000_000_000
 abbrev pub within : ℕ → Bool
 within n = leb n limit
 
--- the rooms of a server, 0 to 7
+-- a server has eight rooms, 0 to 7
 abbrev pub roomCount : ℕ
 roomCount = 8
 
 -- 20: the room is above 7
 abbrev pub roomAbove : ℕ → Bool
-roomAbove k = leb roomCount k
+roomAbove room = leb roomCount room
 
 -- 8: one of sixteen numbers is above L
 abbrev pub aboveLimit : List ℕ → Bool

@@ -5,7 +5,7 @@ use crate::layout;
 ghost use mathlib.Core.Path.{_≡_};
 ghost use Prim.Native.Nat.{_+_, _*_, _<_};
 ghost use Rattle.laws.specs.Upd.{ifb};
-ghost use Rattle.records.specs.Layout.{markOf, formFor, formOf, checkFor, checkOf};
+ghost use Rattle.records.specs.Layout.{markOf, roomOf, formFor, formOf, checkFor, checkOf};
 
 fn wide16(x: u8) -> u16
     ensures { λ r. ⌜ (r ≡ x) × (r < 256) ⌝ }
@@ -28,6 +28,16 @@ pub fn mark_of(bytes: &[u8]) -> u16
         return 0;
     }
     get16(bytes[0], bytes[1])
+}
+
+// The room that bytes name, any byte; 0 where there is none.
+pub fn room_of(bytes: &[u8]) -> u8
+    ensures { λ r. ⌜ r ≡ roomOf (now (bytes .entry)) ⌝ }
+{
+    if bytes.len() <= layout::ROOM {
+        return 0;
+    }
+    bytes[layout::ROOM]
 }
 
 // The kind and length that a mark's value calls for; any other mark is no record's.

@@ -21,39 +21,42 @@ pub const NOTICE: u16 = (NOTICE_MARK[0] as u16) * 256 + (NOTICE_MARK[1] as u16);
 
 pub const VIEW: u16 = (VIEW_MARK[0] as u16) * 256 + (VIEW_MARK[1] as u16);
 
-pub const REPORT_LENGTH: usize = 18;
+// The room of a report, a proposal, a start notice or a view.
+pub const ROOM: usize = 2;
 
-pub const JOINING: usize = 2;
+pub const REPORT_LENGTH: usize = 19;
 
-pub const LEAVING: usize = 10;
+pub const JOINING: usize = 3;
 
-pub const PROPOSAL_LENGTH: usize = 84;
+pub const LEAVING: usize = 11;
 
-pub const SENDER: usize = 2;
+pub const PROPOSAL_LENGTH: usize = 85;
 
-pub const KIND: usize = 3;
+pub const SENDER: usize = 3;
 
-pub const PROPOSAL_MEMBERS: usize = 4;
+pub const KIND: usize = 4;
 
-pub const PROPOSAL_START: usize = 12;
+pub const PROPOSAL_MEMBERS: usize = 5;
 
-pub const PROPOSAL_NUMBER: usize = 16;
+pub const PROPOSAL_START: usize = 13;
 
-pub const USED: usize = 20;
+pub const PROPOSAL_NUMBER: usize = 17;
 
-pub const NOTICE_LENGTH: usize = 14;
+pub const USED: usize = 21;
 
-pub const NOTICE_START: usize = 2;
+pub const NOTICE_LENGTH: usize = 15;
 
-pub const NOTICE_MEMBERS: usize = 6;
+pub const NOTICE_START: usize = 3;
 
-pub const VIEW_LENGTH: usize = 78;
+pub const NOTICE_MEMBERS: usize = 7;
 
-pub const VIEW_NUMBER: usize = 2;
+pub const VIEW_LENGTH: usize = 79;
 
-pub const VIEW_MEMBERS: usize = 6;
+pub const VIEW_NUMBER: usize = 3;
 
-pub const STARTS: usize = 14;
+pub const VIEW_MEMBERS: usize = 7;
+
+pub const STARTS: usize = 15;
 
 pub const SYNC_LENGTH: usize = 11;
 

@@ -8,7 +8,7 @@ pub mod layout;
 // Checks 4 and 5, and the kind of record by its mark.
 mod checks;
 
-// L, and the checks of sixteen numbers.
+// L, the rooms, and the checks of sixteen numbers.
 pub mod numbers;
 
 // The reading of a run of records.
@@ -20,6 +20,7 @@ pub use checks::form_of;
 pub use checks::get16;
 pub use checks::mark_of;
 pub use checks::reason;
+pub use checks::room_of;
 
 // The two kinds of a proposal.
 pub const FAST: u8 = 1;

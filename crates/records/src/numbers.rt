@@ -1,13 +1,23 @@
-// L, and the two checks that the sixteen numbers of a record meet wherever it is read: a proposal's used numbers, a
-// view's start numbers.
+// L and the rooms; check 20, and the two checks that the sixteen numbers of a record meet wherever it is read: a
+// proposal's used numbers, a view's start numbers.
 use seats::SeatSet;
 use seats::offices::lowest;
 use seats::offices::touched;
 ghost use mathlib.Core.Path.{_≡_};
-ghost use Rattle.records.specs.Numbers.{aboveLimit, nonZeroCount, strayNumber};
+ghost use Rattle.records.specs.Numbers.{roomAbove, aboveLimit, nonZeroCount, strayNumber};
 
 // L.
 pub const LIMIT: u32 = 2_000_000_000;
+
+// How many rooms a server has.
+pub const ROOMS: u8 = 8;
+
+// Check 20: whether a room is above the last.
+pub fn room_above(room: u8) -> bool
+    ensures { λ r. ⌜ r ≡ roomAbove room ⌝ }
+{
+    ROOMS <= room
+}
 
 // Check 8: whether one of sixteen numbers is above L.
 pub fn above_limit(numbers: &[u32; 16]) -> bool

@@ -11,45 +11,46 @@ use Rattle.rules.specs.MarkFile.{highBytes}
 use Rattle.restart.specs.Before.{leavingLength, leavingRecord, frontChecks, beforeChecks, noLeave, beforeOf}
 use Rattle.restart.specs.Before.{outBefore}
 
--- a start notice with this number; a view whose largest number is the start number of office 1
+-- in room 5, a start notice with this number; in room 255, which is not looked at, a view whose largest number is the
+-- start number of office 1
 unfoldable told : ℕ → List ℕ
-told n = encodeNotice (record { start = n; members = record { bits = 3 } })
+told n = encodeNotice 5 (record { start = n; members = record { bits = 3 } })
 
 unfoldable seen : List ℕ
-seen = encodeView (record {
+seen = encodeView 255 (record {
   number = 5;
   members = record { bits = 17 };
   starts = 4 ∷ 9 ∷ 0 ∷ 0 ∷ 0 ∷ 0 ∷ 0 ∷ 0 ∷ 0 ∷ 0 ∷ 0 ∷ 0 ∷ 0 ∷ 0 ∷ 0 ∷ 0 ∷ [];
 })
 
 -- a mark is due above the last, not at it; anything may stand behind the record
-due : beforeOf 0 (told 1 ++ (7 ∷ [])) 10 ≡ record { refusal = 0; length = 14; mark = 1_000_001 }
+due : beforeOf 0 (told 1 ++ (7 ∷ [])) 10 ≡ record { refusal = 0; length = 15; mark = 1_000_001 }
 unfolding beforeOf beforeChecks frontChecks leavingLength leavingRecord markOf encodeNotice decodeNotice told
 due = refl
 
-not-due : beforeOf 1 (told 1) 10 ≡ record { refusal = 0; length = 14; mark = 1 }
+not-due : beforeOf 1 (told 1) 10 ≡ record { refusal = 0; length = 15; mark = 1 }
 unfolding beforeOf beforeChecks frontChecks leavingLength leavingRecord markOf encodeNotice decodeNotice told
 not-due = refl
 
 -- no mark past L
-near-limit : beforeOf 1 (told 1_999_000_001) 10 ≡ record { refusal = 0; length = 14; mark = 2_000_000_000 }
+near-limit : beforeOf 1 (told 1_999_000_001) 10 ≡ record { refusal = 0; length = 15; mark = 2_000_000_000 }
 unfolding beforeOf beforeChecks frontChecks leavingLength leavingRecord markOf encodeNotice decodeNotice told
 near-limit = refl
 
-at-limit : beforeOf 2_000_000_000 (told 2_000_000_000) 10 ≡ record { refusal = 0; length = 14; mark = 2_000_000_000 }
+at-limit : beforeOf 2_000_000_000 (told 2_000_000_000) 10 ≡ record { refusal = 0; length = 15; mark = 2_000_000_000 }
 unfolding beforeOf beforeChecks frontChecks leavingLength leavingRecord markOf encodeNotice decodeNotice told
 at-limit = refl
 
 -- other offices' start numbers count
-others : beforeOf 8 seen 10 ≡ record { refusal = 0; length = 78; mark = 1_000_009 }
+others : beforeOf 8 seen 10 ≡ record { refusal = 0; length = 79; mark = 1_000_009 }
 unfolding beforeOf beforeChecks frontChecks leavingLength leavingRecord markOf encodeView decodeView seen bytesAll tab
     largest
 others = refl
 
 -- 3, 4, 5 and 8, the first that applies
-no-room : beforeOf 0 [] 9 ≡ noLeave 3
+short-output : beforeOf 0 [] 9 ≡ noLeave 3
 unfolding beforeOf beforeChecks frontChecks leavingLength leavingRecord markOf
-no-room = refl
+short-output = refl
 
 half-mark : beforeOf 2_000_000_001 (0x53 ∷ []) 10 ≡ noLeave 4
 unfolding beforeOf beforeChecks frontChecks leavingLength leavingRecord markOf
@@ -59,7 +60,7 @@ report-mark : beforeOf 0 (0x4e ∷ 0x45 ∷ []) 10 ≡ noLeave 4
 unfolding beforeOf beforeChecks frontChecks leavingLength leavingRecord markOf
 report-mark = refl
 
-short : beforeOf 2_000_000_001 (take 13 (told 1)) 10 ≡ noLeave 5
+short : beforeOf 2_000_000_001 (take 14 (told 1)) 10 ≡ noLeave 5
 unfolding beforeOf beforeChecks frontChecks leavingLength leavingRecord markOf encodeNotice decodeNotice told
 short = refl
 

@@ -27,7 +27,7 @@ use Rattle.rules.specs.MarkFile.{highBytes}
 use Rattle.rules.specs.Leaving.{largestIn}
 use Rattle.restart.specs.declared.leaving.DueMark.{DueMark}
 use Rattle.restart.specs.Before.{leavingLength, frontLength, leavingRecord, frontLargest, readLargest}
-use Rattle.restart.specs.Before.{noRoom, noRecord, cutShort, leavesAbove, frontChecks, beforeChecks}
+use Rattle.restart.specs.Before.{shortOutput, noRecord, cutShort, leavesAbove, frontChecks, beforeChecks}
 use Rattle.restart.specs.Before.{markFor, noLeave, beforeOf, outBefore}
 
 -- each of the three records has more bytes than a mark
@@ -82,8 +82,8 @@ front-read rest t l =
     rw e at (read-largest (take n rest) (rw e some) (length-take-le n rest l ∙ ap leavingLength (sym e)))
 
 -- none of the first three checks applies
-pub record FrontFits (room n size : ℕ) : Type 0 where
-  pub room-for : noRoom room ≡ false
+pub record FrontFits (output n size : ℕ) : Type 0 where
+  pub long-enough : shortOutput output ≡ false
   pub marked : noRecord n ≡ false
   pub enough : cutShort n size ≡ false
 
@@ -97,48 +97,48 @@ three-first false true c r h = refl
 three-first false false true r h = refl
 three-first false false false r h = absurd (h refl)
 
-fits-out : (room n size : ℕ) → firstOf (frontChecks room n size) ≡ 0 → FrontFits room n size
+fits-out : (output n size : ℕ) → firstOf (frontChecks output n size) ≡ 0 → FrontFits output n size
 unfolding frontChecks
-fits-out room n size z =
-    let h = first-none (noRoom room) 2 _ .0 z in
+fits-out output n size z =
+    let h = first-none (shortOutput output) 2 _ .0 z in
     let k = first-none (noRecord n) 3 _ .0 (h .1) in
-    record { room-for = h .0; marked = k .0; enough = first-none (cutShort n size) 4 _ .0 (k .1) .0 }
+    record { long-enough = h .0; marked = k .0; enough = first-none (cutShort n size) 4 _ .0 (k .1) .0 }
 
-module _ (last : ℕ) (rest : List ℕ) (room : ℕ) where
-  first-3 : (r : ℕ) → r ≡ firstOf (frontChecks room (frontLength rest) (length rest)) → (r ≡ 0 → ⊥)
-      → firstOf (beforeChecks last rest room) ≡ r
+module _ (last : ℕ) (rest : List ℕ) (output : ℕ) where
+  first-3 : (r : ℕ) → r ≡ firstOf (frontChecks output (frontLength rest) (length rest)) → (r ≡ 0 → ⊥)
+      → firstOf (beforeChecks last rest output) ≡ r
   unfolding beforeChecks frontChecks
   first-3 r e h =
-      three-first (noRoom room) (noRecord (frontLength rest)) (cutShort (frontLength rest) (length rest)) _
+      three-first (shortOutput output) (noRecord (frontLength rest)) (cutShort (frontLength rest) (length rest)) _
       (λ z. h (e ∙ z)) ∙ sym e
 
-  pub first-8 : FrontFits room (frontLength rest) (length rest)
-      → firstOf (beforeChecks last rest room) ≡ ifb (leavesAbove last (frontLargest rest)) 8 0
+  pub first-8 : FrontFits output (frontLength rest) (length rest)
+      → firstOf (beforeChecks last rest output) ≡ ifb (leavesAbove last (frontLargest rest)) 8 0
   unfolding beforeChecks frontChecks
-  first-8 f = rw (f .room-for, f .marked, f .enough)
+  first-8 f = rw (f .long-enough, f .marked, f .enough)
 
-  pub before-leaves : FrontFits room (frontLength rest) (length rest) → leavesAbove last (frontLargest rest) ≡ false
-      → beforeOf last rest room
+  pub before-leaves : FrontFits output (frontLength rest) (length rest) → leavesAbove last (frontLargest rest) ≡ false
+      → beforeOf last rest output
       ≡ record { refusal = 0; length = frontLength rest; mark = markFor last (frontLargest rest) }
   unfolding beforeOf
   before-leaves f t = rw (first-8 f, t)
 
   -- the mark that the bytes start with, what it calls for, and the first of 3, 4 and 5
   module _ (m : ℕ) (is-mark : m ≡ markOf rest) (n : ℕ) (is-length : n ≡ leavingLength m) (r : ℕ)
-      (is-first : r ≡ firstOf (frontChecks room n (length rest))) where
+      (is-first : r ≡ firstOf (frontChecks output n (length rest))) where
     front : n ≡ frontLength rest
     front = is-length ∙ ap leavingLength is-mark
 
-    first : r ≡ firstOf (frontChecks room (frontLength rest) (length rest))
-    first = is-first ∙ ap (λ (k : ℕ). firstOf (frontChecks room k (length rest))) front
+    first : r ≡ firstOf (frontChecks output (frontLength rest) (length rest))
+    first = is-first ∙ ap (λ (k : ℕ). firstOf (frontChecks output k (length rest))) front
 
-    pub at-front : (r ≡ 0 → ⊥) → noLeave r ≡ beforeOf last rest room
+    pub at-front : (r ≡ 0 → ⊥) → noLeave r ≡ beforeOf last rest output
     unfolding beforeOf
     at-front h = rw (first-3 r first h, ne-eqb r 0 h)
 
     module _ (z : r ≡ 0) where
-      fits : FrontFits room (frontLength rest) (length rest)
-      fits = fits-out room (frontLength rest) (length rest) (sym first ∙ z)
+      fits : FrontFits output (frontLength rest) (length rest)
+      fits = fits-out output (frontLength rest) (length rest) (sym first ∙ z)
 
       pub within-rest : n ≤ length rest
       within-rest = rw front (ltb-false _ _ (fits .enough))
@@ -147,12 +147,12 @@ module _ (last : ℕ) (rest : List ℕ) (room : ℕ) where
         largest : x ≡ frontLargest rest
         largest = is-largest ∙ rw (is-mark, front) (front-read rest (fits .marked) (ltb-false _ _ (fits .enough)))
 
-        pub at-above : leavesAbove last x ≡ true → noLeave 8 ≡ beforeOf last rest room
+        pub at-above : leavesAbove last x ≡ true → noLeave 8 ≡ beforeOf last rest output
         unfolding beforeOf
         at-above t = rw (first-8 fits, rw largest at t)
 
         pub at-leave : leavesAbove last x ≡ false → (k : ℕ) → k ≡ markFor last x
-            → record { refusal = 0; length = n; mark = k } ≡ beforeOf last rest room
+            → record { refusal = 0; length = n; mark = k } ≡ beforeOf last rest output
         at-leave t k e = rw (e, front, largest) (sym (before-leaves fits (rw largest at t)))
 
 -- the output
@@ -164,12 +164,12 @@ module _ (last : ℕ) (rest out : List ℕ) (f : DueMark) (is-found : f ≡ befo
   unfolding outBefore
   at-untouched h = rw (found, le-ltb last (f .mark) h)
 
-  -- a mark is due only where it has room
-  due-room : last < f .mark → highLength ≤ length out
+  -- a mark is due only where the output has a place for it
+  due-fits : last < f .mark → highLength ≤ length out
   unfolding beforeOf beforeChecks frontChecks
-  due-room h = go (noRoom (length out)) refl
+  due-fits h = go (shortOutput (length out)) refl
     where
-      go : (t : Bool) → noRoom (length out) ≡ t → highLength ≤ length out
+      go : (t : Bool) → shortOutput (length out) ≡ t → highLength ≤ length out
       go true e = let z : beforeOf last rest (length out) .mark ≡ 0 = rw e in let q = found in absurd (omega arith)
       go false e = ltb-false _ _ e
 
@@ -179,4 +179,4 @@ module _ (last : ℕ) (rest out : List ℕ) (f : DueMark) (is-found : f ≡ befo
   unfolding outBefore highBytes placed
   at-marked h k after p =
       rw (found, lt-ltb last (f .mark) h)
-      (p .output ∙ rw (high-length (record { number = f .mark; again = f .mark }), le-leb _ _ (due-room h)))
+      (p .output ∙ rw (high-length (record { number = f .mark; again = f .mark }), le-leb _ _ (due-fits h)))

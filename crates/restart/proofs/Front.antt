@@ -36,93 +36,97 @@ markValue (notice n) = valueOf noticeMark
 markValue (proposal p) = valueOf proposalMark
 markValue (view v) = valueOf viewMark
 
-mark-front : (w : Written) (behind : List ℕ) → markOf (bytesOf w ++ behind) ≡ markValue w
-unfolding encodeNotice encodeProposal encodeView
-mark-front (notice n) behind = long-mark (encodeNotice n ++ behind) (omega arith)
-mark-front (proposal p) behind = long-mark (encodeProposal p ++ behind) (omega arith)
-mark-front (view v) behind = long-mark (encodeView v ++ behind) (omega arith)
-
-mark-own : (w : Written) → markOf (bytesOf w) ≡ markValue w
-mark-own w = rw (append-nil (bytesOf w)) at (mark-front w [])
-
--- what its bytes are read as
-abbrev readBack : Written → Written
-readBack (notice n) = notice (decodeNotice (encodeNotice n))
-readBack (proposal p) = proposal (decodeProposal (encodeProposal p))
-readBack (view v) = view (decodeView (encodeView v))
-
-read-back : (w : Written) → leavingRecord (bytesOf w) ≡ readBack w
-unfolding leavingRecord
-read-back (notice n) = rw (mark-own (notice n))
-read-back (proposal p) = rw (mark-own (proposal p))
-read-back (view v) = rw (mark-own (view v))
-
 -- sixteen numbers of which none is above L have room in four bytes each
 sixteen-low : (l : List ℕ) → length l ≡ 16 → largest 16 (λ o. getD l o 0) ≤ limit → Below (2 ^ 32) l
 sixteen-low l n h = sixteen-below l n (λ o lt. let x = largest-le 16 (λ k. getD l k 0) o lt in omega arith)
 
--- its numbers come back, whatever its members
-back-largest : (w : Written) → HasSixteen w → largestIn w ≤ limit → largestIn (readBack w) ≡ largestIn w
-unfolding encodeNotice decodeNotice encodeProposal decodeProposal encodeView decodeView
-back-largest (notice n) h l = digits4 (n .start) (omega arith)
-back-largest (proposal p) h l =
-    rw (
-      digits4 (p .start) (omega arith),
-      digits4 (p .number) (omega arith),
-      all-back
-          (proposalMark ++ (p .sender ∷ p .kind ∷ []) ++ bytes8 (p .members .bits)
-          ++ bytes4 (p .start) ++ bytes4 (p .number))
-          (p .used) 16 h (sixteen-low (p .used) h (omega arith)),
-    )
-back-largest (view v) h l =
-    rw (
-      digits4 (v .number) (omega arith),
-      all-back (viewMark ++ bytes4 (v .number) ++ bytes8 (v .members .bits)) (v .starts) 16 h
-          (sixteen-low (v .starts) h (omega arith)),
-    )
+-- the bytes of a record of a room
+module _ (room : ℕ) where
+  mark-front : (w : Written) (behind : List ℕ) → markOf (bytesOf room w ++ behind) ≡ markValue w
+  unfolding encodeNotice encodeProposal encodeView
+  mark-front (notice n) behind = long-mark (encodeNotice room n ++ behind) (omega arith)
+  mark-front (proposal p) behind = long-mark (encodeProposal room p ++ behind) (omega arith)
+  mark-front (view v) behind = long-mark (encodeView room v ++ behind) (omega arith)
 
-bytes-length : (w : Written) → HasSixteen w → length (bytesOf w) ≡ leavingLength (markValue w)
-unfolding leavingLength
-bytes-length (notice n) h = notice-length n
-bytes-length (proposal p) h = proposal-length p h
-bytes-length (view v) h = view-length v h
+  mark-own : (w : Written) → markOf (bytesOf room w) ≡ markValue w
+  mark-own w = rw (append-nil (bytesOf room w)) at (mark-front w [])
 
-pub bytes-some : (w : Written) → HasSixteen w → 0 < length (bytesOf w)
-bytes-some (notice n) h = let e = notice-length n in omega arith
-bytes-some (proposal p) h = let e = proposal-length p h in omega arith
-bytes-some (view v) h = let e = view-length v h in omega arith
+  -- what they are read as
+  abbrev readBack : Written → Written
+  readBack (notice n) = notice (decodeNotice (encodeNotice room n))
+  readBack (proposal p) = proposal (decodeProposal (encodeProposal room p))
+  readBack (view v) = view (decodeView (encodeView room v))
 
--- with any bytes behind it
-module _ (w : Written) (h : HasSixteen w) (behind : List ℕ) where
-  pub front-length : frontLength (bytesOf w ++ behind) ≡ length (bytesOf w)
-  front-length = ap leavingLength (mark-front w behind) ∙ sym (bytes-length w h)
+  read-back : (w : Written) → leavingRecord (bytesOf room w) ≡ readBack w
+  unfolding leavingRecord
+  read-back (notice n) = rw (mark-own (notice n))
+  read-back (proposal p) = rw (mark-own (proposal p))
+  read-back (view v) = rw (mark-own (view v))
 
-  pub front-part : take (frontLength (bytesOf w ++ behind)) (bytesOf w ++ behind) ≡ bytesOf w
-  front-part = take-at (bytesOf w) behind (frontLength (bytesOf w ++ behind)) (sym front-length)
+  -- its numbers come back, whatever its members
+  back-largest : (w : Written) → HasSixteen w → largestIn w ≤ limit → largestIn (readBack w) ≡ largestIn w
+  unfolding encodeNotice decodeNotice encodeProposal decodeProposal encodeView decodeView
+  back-largest (notice n) h l = digits4 (n .start) (omega arith)
+  back-largest (proposal p) h l =
+      rw (
+        digits4 (p .start) (omega arith),
+        digits4 (p .number) (omega arith),
+        all-back
+            (proposalMark ++ (room ∷ p .sender ∷ p .kind ∷ []) ++ bytes8 (p .members .bits)
+            ++ bytes4 (p .start) ++ bytes4 (p .number))
+            (p .used) 16 h (sixteen-low (p .used) h (omega arith)),
+      )
+  back-largest (view v) h l =
+      rw (
+        digits4 (v .number) (omega arith),
+        all-back (viewMark ++ (room ∷ []) ++ bytes4 (v .number) ++ bytes8 (v .members .bits)) (v .starts) 16 h
+            (sixteen-low (v .starts) h (omega arith)),
+      )
 
-  pub front-largest : largestIn w ≤ limit → frontLargest (bytesOf w ++ behind) ≡ largestIn w
-  front-largest l = rw (front-part, read-back w) (back-largest w h l)
+  bytes-length : (w : Written) → HasSixteen w → length (bytesOf room w) ≡ leavingLength (markValue w)
+  unfolding leavingLength
+  bytes-length (notice n) h = notice-length room n
+  bytes-length (proposal p) h = proposal-length room p h
+  bytes-length (view v) h = view-length room v h
 
-  -- and where it has no number above L
-  module _ (l : largestIn w ≤ limit) (last : ℕ) (low : last ≤ limit) (room : ℕ) (fits : highLength ≤ room) where
-    passes : FrontFits room (frontLength (bytesOf w ++ behind)) (length (bytesOf w ++ behind))
-    passes = record {
-      room-for = le-ltb _ _ fits;
-      marked = ne-eqb (frontLength (bytesOf w ++ behind)) 0
-          (λ z. let a = front-length in let b = bytes-some w h in omega arith);
-      enough = le-ltb (length (bytesOf w ++ behind)) (frontLength (bytesOf w ++ behind))
-          (let a = front-length in let b = length-append (bytesOf w) behind in omega arith);
-    }
+  pub bytes-some : (w : Written) → HasSixteen w → 0 < length (bytesOf room w)
+  bytes-some (notice n) h = let e = notice-length room n in omega arith
+  bytes-some (proposal p) h = let e = proposal-length room p h in omega arith
+  bytes-some (view v) h = let e = view-length room v h in omega arith
 
-    -- the call answers with its length and the mark that it asks for
-    pub before-record : beforeOf last (bytesOf w ++ behind) room
-        ≡ record { refusal = 0; length = length (bytesOf w); mark = markFor last (largestIn w) }
-    before-record =
-        let x = frontLargest (bytesOf w ++ behind) in
-        let low-too : x ≤ limit = rw (front-largest l) l in
-        before-leaves last (bytesOf w ++ behind) room passes
-        (or-out (ltb limit last) (ltb limit x) (le-ltb limit last low) (le-ltb limit x low-too))
-        ∙ rw (front-largest l, front-length)
+  -- with any bytes behind it
+  module _ (w : Written) (h : HasSixteen w) (behind : List ℕ) where
+    abbrev bytes : List ℕ
+    bytes = bytesOf room w ++ behind
+
+    pub front-length : frontLength bytes ≡ length (bytesOf room w)
+    front-length = ap leavingLength (mark-front w behind) ∙ sym (bytes-length w h)
+
+    pub front-part : take (frontLength bytes) bytes ≡ bytesOf room w
+    front-part = take-at (bytesOf room w) behind (frontLength bytes) (sym front-length)
+
+    pub front-largest : largestIn w ≤ limit → frontLargest bytes ≡ largestIn w
+    front-largest l = rw (front-part, read-back w) (back-largest w h l)
+
+    -- and where it has no number above L
+    module _ (l : largestIn w ≤ limit) (last : ℕ) (low : last ≤ limit) (output : ℕ) (fits : highLength ≤ output) where
+      passes : FrontFits output (frontLength bytes) (length bytes)
+      passes = record {
+        long-enough = le-ltb _ _ fits;
+        marked = ne-eqb (frontLength bytes) 0 (λ z. let a = front-length in let b = bytes-some w h in omega arith);
+        enough = le-ltb (length bytes) (frontLength bytes)
+            (let a = front-length in let b = length-append (bytesOf room w) behind in omega arith);
+      }
+
+      -- the call answers with its length and the mark that it asks for
+      pub before-record : beforeOf last bytes output
+          ≡ record { refusal = 0; length = length (bytesOf room w); mark = markFor last (largestIn w) }
+      before-record =
+          let x = frontLargest bytes in
+          let low-too : x ≤ limit = rw (front-largest l) l in
+          before-leaves last bytes output passes
+          (or-out (ltb limit last) (ltb limit x) (le-ltb limit last low) (le-ltb limit x low-too))
+          ∙ rw (front-largest l, front-length)
 
 -- no record that leaves is longer than a proposal
 front-most : (m : ℕ) → leavingLength m ≤ proposalLength
@@ -135,8 +139,8 @@ front-most m = go (eqb m (valueOf noticeMark)) (eqb m (valueOf proposalMark)) (e
     go false false true = omega arith
     go false false false = omega arith
 
-pub before-length : (last : ℕ) (rest : List ℕ) (room : ℕ) → beforeOf last rest room .length ≤ proposalLength
+pub before-length : (last : ℕ) (rest : List ℕ) (output : ℕ) → beforeOf last rest output .length ≤ proposalLength
 unfolding beforeOf
-before-length last rest room =
-    if-cases (λ (b : DueMark). b .length ≤ proposalLength) (eqb (firstOf (beforeChecks last rest room)) 0) _ _
+before-length last rest output =
+    if-cases (λ (b : DueMark). b .length ≤ proposalLength) (eqb (firstOf (beforeChecks last rest output)) 0) _ _
     (λ e. front-most (markOf rest)) (λ e. omega arith)

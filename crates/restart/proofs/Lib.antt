@@ -2,7 +2,7 @@
 mod Passing
 pub mod Answers
 -- restarting, and what the words hold then
-pub mod RestartRows
+pub mod RestartTables
 -- leaving
 mod Exits
 mod Cases

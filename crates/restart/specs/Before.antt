@@ -43,9 +43,9 @@ readLargest m b =
     (ifb (eqb m (valueOf proposalMark)) (largestIn (proposal (readProposal b .proposal)))
     (largestIn (view (readView b .view))))
 
--- 3: the output has no room for a mark
-abbrev pub noRoom : ℕ → Bool
-noRoom room = ltb room highLength
+-- 3: the output, of this length, has no place for a mark
+abbrev pub shortOutput : ℕ → Bool
+shortOutput output = ltb output highLength
 
 -- 4: the mark is none of the three, so that it calls for no length
 abbrev pub noRecord : ℕ → Bool
@@ -61,13 +61,13 @@ leavesAbove last x = ltb limit last || ltb limit x
 
 -- 3, 4 and 5, before the numbers are read
 unfoldable pub frontChecks : ℕ → ℕ → ℕ → List Check
-frontChecks room n size =
-    record { number = 3; applies = noRoom room } ∷ record { number = 4; applies = noRecord n }
+frontChecks output n size =
+    record { number = 3; applies = shortOutput output } ∷ record { number = 4; applies = noRecord n }
     ∷ record { number = 5; applies = cutShort n size } ∷ []
 
 unfoldable pub beforeChecks : ℕ → List ℕ → ℕ → List Check
-beforeChecks last rest room =
-    frontChecks room (frontLength rest) (length rest)
+beforeChecks last rest output =
+    frontChecks output (frontLength rest) (length rest)
     ++ (record { number = 8; applies = leavesAbove last (frontLargest rest) } ∷ [])
 
 -- the last mark once a record with largest number x may leave
@@ -78,8 +78,8 @@ abbrev pub noLeave : ℕ → DueMark
 noLeave n = record { refusal = n; length = 0; mark = 0 }
 
 unfoldable pub beforeOf : ℕ → List ℕ → ℕ → DueMark
-beforeOf last rest room =
-    let n = firstOf (beforeChecks last rest room) in
+beforeOf last rest output =
+    let n = firstOf (beforeChecks last rest output) in
     ifb (eqb n 0) (record { refusal = 0; length = frontLength rest; mark = markFor last (frontLargest rest) })
     (noLeave n)
 

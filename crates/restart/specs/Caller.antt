@@ -55,17 +55,17 @@ sentBy [] = []
 sentBy (writes place x ∷ ms) = sentBy ms
 sentBy (sends b ∷ ms) = b ∷ sentBy ms
 
--- what the rules say that an office does, in bytes
-abbrev pub moveOf : Action → Move
-moveOf (puts place x) = writes place x
-moveOf (leaves w) = sends (bytesOf w)
+-- what the rules say that an office does in a room, in bytes
+abbrev pub moveOf : ℕ → Action → Move
+moveOf room (puts place x) = writes place x
+moveOf room (leaves w) = sends (bytesOf room w)
 
--- such moves are what the rules say of the records ws and the file f; cut off after any of them, so are the file and
--- what has left
-pub record MovesAs (f : List ℕ) (ws : List Written) (ms : List Move) : Type 0 where
-  pub moves : ms ≡ map moveOf (actionsOf f ws)
+-- such moves are what the rules say of the records ws of a room and the file f; cut off after any of them, so are the
+-- file and what has left
+pub record MovesAs (room : ℕ) (f : List ℕ) (ws : List Written) (ms : List Move) : Type 0 where
+  pub moves : ms ≡ map (moveOf room) (actionsOf f ws)
   pub file : (n : ℕ) → filedBy f (take n ms) ≡ fileAfter f (take n (actionsOf f ws))
-  pub left : (n : ℕ) → sentBy (take n ms) ≡ map bytesOf (leftIn (take n (actionsOf f ws)))
+  pub left : (n : ℕ) → sentBy (take n ms) ≡ map (bytesOf room) (leftIn (take n (actionsOf f ws)))
 
 -- where a record has sixteen numbers by its form, it has sixteen
 abbrev pub HasSixteen : Written → Type 0

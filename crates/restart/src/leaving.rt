@@ -20,8 +20,8 @@ ghost use Rattle.laws.specs.Fin.{largest};
 ghost use Rattle.rules.specs.Rules.{notice, proposal, view};
 ghost use Rattle.rules.specs.MarkFile.{nextHigh};
 ghost use Rattle.rules.specs.Leaving.{largestIn};
-ghost use Rattle.restart.specs.Before.{leavingLength, readLargest, noRoom, noRecord, cutShort, leavesAbove};
-ghost use Rattle.restart.specs.Before.{frontChecks, markFor, noLeave, beforeOf, outBefore};
+ghost use Rattle.restart.specs.Before.{leavingLength, readLargest, shortOutput, noRecord, cutShort};
+ghost use Rattle.restart.specs.Before.{leavesAbove, frontChecks, markFor, noLeave, beforeOf, outBefore};
 
 // The refusal, the length of the record in front and the last mark once it may leave; zeros with a refusal.
 pub struct DueMark {
@@ -99,10 +99,10 @@ fn largest_in(value: u16, bytes: &[u8]) -> u32
 }
 
 // Check 3.
-fn no_room(room: usize) -> bool
-    ensures { λ r. ⌜ r ≡ noRoom room ⌝ }
+fn short_output(output: usize) -> bool
+    ensures { λ r. ⌜ r ≡ shortOutput output ⌝ }
 {
-    room < layout::HIGH_LENGTH
+    output < layout::HIGH_LENGTH
 }
 
 // Check 4.
@@ -127,10 +127,10 @@ fn leaves_above(last: u32, largest: u32) -> bool
 }
 
 // The first of checks 3, 4 and 5 that applies, 0 where none does.
-fn front_refusal(room: usize, length: usize, size: usize) -> u8
-    ensures { λ r. ⌜ r ≡ firstOf (frontChecks room length size) ⌝ }
+fn front_refusal(output: usize, length: usize, size: usize) -> u8
+    ensures { λ r. ⌜ r ≡ firstOf (frontChecks output length size) ⌝ }
 {
-    let full = no_room(room);
+    let full = short_output(output);
     let other = no_record(length);
     let short = cut_short(length, size);
     reason(full, 3, reason(other, 4, reason(short, 5, 0)))
@@ -169,13 +169,13 @@ fn refuse(refusal: u8) -> DueMark
     }
 }
 
-// What is answered where the output has so much room. The record in front is a part of the bytes themselves.
-fn answer_for(last: u32, rest: &[u8], room: usize) -> DueMark
-    ensures { λ r. ⌜ r ≡ beforeOf last (now (rest .entry)) room ⌝ }
+// What is answered where the output has this length. The record in front is a part of the bytes themselves.
+fn answer_for(last: u32, rest: &[u8], output: usize) -> DueMark
+    ensures { λ r. ⌜ r ≡ beforeOf last (now (rest .entry)) output ⌝ }
 {
     let value = mark_of(rest);
     let length = leaving_length(value);
-    let refusal = front_refusal(room, length, rest.len());
+    let refusal = front_refusal(output, length, rest.len());
     if refusal != 0 {
         return refuse(refusal);
     }

@@ -135,7 +135,7 @@ module _ (own : ℕ) (lt : own < 16) (k : ℕ) (lk : k < roomCount) where
         → answerTable (s .table) h .written ≡ answerTo (s .table k) (inputOf h) .written
     left-here h q = ap (λ (r : Result). r .written) (handed-here k lk (s .table) (c .passes) h q)
 
-    well-after : (u : ServerTurn) → WellServed (nextServer own s u) (leftNow u)
+    pub well-after : (u : ServerTurn) → WellServed (nextServer own s u) (leftNow u)
     unfolding nextServer
     well-after (servesAll h) =
         record {

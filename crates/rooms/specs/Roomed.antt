@@ -3,6 +3,8 @@ use mathlib.Core.List.{List, [], _∷_}
 use Prim.Native.Nat.{ℕ}
 use lib.Dec.{eqb}
 use Rattle.laws.specs.Upd.{ifb}
+use Rattle.rules.specs.Rules.{Written}
+use Rattle.rules.specs.Refusals.{bytesOf}
 
 pub record Roomed (A : Type 0) : Type 0 where
   pub room : ℕ
@@ -18,3 +20,7 @@ module _ {A : Type 0} where
   unfoldable pub ofRoom : ℕ → List (Roomed A) → List A
   ofRoom k [] = []
   ofRoom k (x ∷ l) = ifb (eqb (x .room) k) (x .what ∷ ofRoom k l) (ofRoom k l)
+
+-- the bytes of a record, which name its room
+abbrev pub roomBytes : Roomed Written → List ℕ
+roomBytes x = bytesOf (x .room) (x .what)

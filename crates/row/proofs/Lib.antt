@@ -8,3 +8,4 @@ mod Kept
 pub mod StoreLaws
 pub mod Words
 pub mod Holds
+pub mod Tables

@@ -1,2 +1,3 @@
 pub mod Row
 pub mod Changes
+pub mod Table

@@ -1,5 +1,5 @@
-// The state of an office in a row of words that the caller lends, inner to the layer of the step, which hands on WORDS
-// and view_number. Contracts speak of the record State; no function outside this crate names a place of the row.
+// The state of an office in a row of words, one row for each room in the table that the caller lends; inner to the layer
+// of the step. Contracts speak of the record State; no function outside this crate names a place of the row.
 
 // The places.
 mod layout;
@@ -21,6 +21,9 @@ pub mod changes;
 
 // Changes of the stored proposals.
 pub mod slots;
+
+// The rows of all rooms.
+pub mod table;
 
 pub use layout::WORDS;
 pub use readers::accepted;

@@ -1,6 +1,6 @@
 -- The step on the bytes of a record: the act on that record.
 use mathlib.Core.Path.{_≡_, refl, ap}
-use Prim.Native.Nat.{_≤_}
+use Prim.Native.Nat.{ℕ, _≤_}
 use native.Mathlib.Omega.{arith}
 use lib.ListN.{length}
 use borrow.Author.Tests.{le-ltb}
@@ -11,20 +11,20 @@ use Rattle.records.specs.declared.Report.{Report}
 use Rattle.records.specs.declared.Proposal.{Proposal}
 use Rattle.rules.specs.Refusals.{aReport, aProposal, eventOf}
 
-mark-proposal : (p : Proposal) → markOf (encodeProposal p) ≡ 0x5052
+mark-proposal : (room : ℕ) (p : Proposal) → markOf (encodeProposal room p) ≡ 0x5052
 unfolding markOf encodeProposal
-mark-proposal p = let two : 2 ≤ length (encodeProposal p) = omega arith in
-    rw (le-ltb (length (encodeProposal p)) 2 two)
+mark-proposal room p = let two : 2 ≤ length (encodeProposal room p) = omega arith in
+    rw (le-ltb (length (encodeProposal room p)) 2 two)
 
-pub report-event : (r : Report) → FitsReport r → eventOf (encodeReport r) ≡ aReport r
+pub report-event : (room : ℕ) (r : Report) → FitsReport r → eventOf (encodeReport room r) ≡ aReport r
 unfolding eventOf markOf encodeReport
-report-event r f = ap aReport (report-back r f)
+report-event room r f = ap aReport (report-back room r f)
 
 -- any proposal, as its bytes are read; its sender stays
-pub proposal-event : (p : Proposal) → eventOf (encodeProposal p) ≡ aProposal (decodeProposal (encodeProposal p))
+pub proposal-event : (room : ℕ) (p : Proposal) → eventOf (encodeProposal room p) ≡ aProposal (decodeProposal (encodeProposal room p))
 unfolding eventOf
-proposal-event p = rw (mark-proposal p)
+proposal-event room p = rw (mark-proposal room p)
 
-pub sender-stays : (p : Proposal) → decodeProposal (encodeProposal p) .sender ≡ p .sender
+pub sender-stays : (room : ℕ) (p : Proposal) → decodeProposal (encodeProposal room p) .sender ≡ p .sender
 unfolding decodeProposal encodeProposal
-sender-stays p = refl
+sender-stays room p = refl

@@ -8,12 +8,12 @@ use native.Mathlib.Omega.{arith}
 use native.Mathlib.Decide.{decLt}
 use borrow.Author.Tests.{lt-ltb, le-ltb, le-leb, lt-leb, ne-eqb}
 use Rattle.laws.specs.Upd.{ifb}
-use Rattle.records.specs.Layout.{reportMark, proposalMark, reportLength, proposalLength, checkOf, checkOwn}
+use Rattle.records.specs.Layout.{reportMark, proposalMark, reportLength, proposalLength, checkOwn}
 use Rattle.records.specs.Layout.{decodeReport, decodeProposal}
 use Rattle.records.proofs.CheckLaws.{own-mark}
 use Rattle.rules.specs.State.{State}
 use Rattle.rules.specs.Rules.{fresh}
-use Rattle.rules.specs.Refusals.{wellFormed, fullRoom, madeOf, unreadable, Event, aReport, aProposal, eventOf}
+use Rattle.rules.specs.Refusals.{wellFormed, fullRoom, madeOf, readCheck, unreadable, Event, aReport, aProposal, eventOf}
 use Rattle.rules.specs.Refusals.{refusalOf, ruleOf}
 use Rattle.rules.specs.Refusals.{refused, accepting, actOf, stepOf, allBytes, size}
 use Rattle.rule_laws.proofs.Steps.{Refused, Accepts, step-cases, fresh-well}
@@ -37,25 +37,25 @@ made-passes office = go (decLt 15 office)
     go (yes l) = rw (made-1 office l) (fresh-well 0 (omega arith))
     go (no l) = rw (made-0 office (omega arith)) (fresh-well office (omega arith))
 
-module _ (s : State) (b : List ℕ) (room : ℕ) where
-  pub exit-2 : wellFormed s ≡ false → stepOf s b room ≡ refused 2 s
+module _ (s : State) (b : List ℕ) (output : ℕ) where
+  pub exit-2 : wellFormed s ≡ false → stepOf s b output ≡ refused 2 s
   unfolding stepOf unreadable
   exit-2 w = rw w
 
   module _ (well : wellFormed s ≡ true) where
-    pub exit-3 : room < fullRoom → stepOf s b room ≡ refused 3 s
+    pub exit-3 : output < fullRoom → stepOf s b output ≡ refused 3 s
     unfolding stepOf unreadable
-    exit-3 l = rw (well, lt-ltb room fullRoom l)
+    exit-3 l = rw (well, lt-ltb output fullRoom l)
 
-    -- 4 and 5, and what acting on the record answers where they pass
-    module _ (fits : fullRoom ≤ room) where
-      pub exit-unread : (checkOf b ≡ 0 → ⊥) → stepOf s b room .refusal ≡ checkOf b
+    -- 4, 5 and 20, and what acting on the record answers where they pass
+    module _ (fits : fullRoom ≤ output) where
+      pub exit-unread : (readCheck b ≡ 0 → ⊥) → stepOf s b output .refusal ≡ readCheck b
       unfolding stepOf unreadable
-      exit-unread h = rw (well, le-ltb room fullRoom fits, ne-eqb (checkOf b) 0 h, ne-eqb (checkOf b) 0 h)
+      exit-unread h = rw (well, le-ltb output fullRoom fits, ne-eqb (readCheck b) 0 h, ne-eqb (readCheck b) 0 h)
 
-      pub exit-read : checkOf b ≡ 0 → stepOf s b room ≡ actOf s (eventOf b)
+      pub exit-read : readCheck b ≡ 0 → stepOf s b output ≡ actOf s (eventOf b)
       unfolding stepOf unreadable
-      exit-read c = rw (well, le-ltb room fullRoom fits, c)
+      exit-read c = rw (well, le-ltb output fullRoom fits, c)
 
 module _ (s : State) (e : Event) where
   -- 6 to 12 and 19
@@ -84,15 +84,15 @@ unfolding eventOf
 proposal-read b c = rw (own-mark proposalMark proposalLength b c)
 
 -- where nothing is written, no byte is
-pub no-bytes : allBytes [] ≡ []
+pub no-bytes : (room : ℕ) → allBytes room [] ≡ []
 unfolding allBytes
-no-bytes = refl
+no-bytes room = refl
 
 -- what the step writes has room
-pub room-enough : (s : State) (b : List ℕ) (room : ℕ) → size (stepOf s b room .written) ≤ room
+pub room-enough : (s : State) (b : List ℕ) (output : ℕ) → size (stepOf s b output .written) ≤ output
 unfolding allBytes
-room-enough s b room = go (step-cases s b room)
+room-enough s b output = go (step-cases s b output)
   where
-    go : Refused s (stepOf s b room) ⊎ Accepts s b room → size (stepOf s b room .written) ≤ room
+    go : Refused s (stepOf s b output) ⊎ Accepts s b output → size (stepOf s b output .written) ≤ output
     go (inl r) = rw (r .is) (omega arith)
-    go (inr a) = let z = step-size s b room in omega (arith, a .fits)
+    go (inr a) = let z = step-size s b output in omega (arith, a .fits)

@@ -370,8 +370,8 @@ own-largest (notice n) = omega arith
 own-largest (proposal p) = omega arith
 own-largest (view v) = omega arith
 
-pub take-largest : (s : State) (e : Event) (room : ℕ) → Every (λ w. largestIn w ≤ limit) (takeOf s e room .written)
-take-largest s e room = every-map within (take-within s e room)
+pub take-largest : (s : State) (e : Event) (output : ℕ) → Every (λ w. largestIn w ≤ limit) (takeOf s e output .written)
+take-largest s e output = every-map within (take-within s e output)
   where
     within : (w : Written) → RecordWithin w → largestIn w ≤ limit
     within (notice n) h = h

@@ -16,6 +16,7 @@ pub mod Counted
 pub mod Monotone
 pub mod Sizes
 pub mod Exits
+pub mod TableSteps
 pub mod Checking
 pub mod Shapes
 pub mod MarkFile

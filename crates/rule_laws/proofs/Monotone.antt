@@ -142,8 +142,8 @@ rises-none : (s : State) → Rises s [] s
 rises-none s = record { start = le-refl _; numbers = at-end (le-refl _); accepted = λ o l. le-refl _ }
 
 -- of an event taken or not, and of a step
-pub take-rises : (s : State) (e : Event) (room : ℕ) → Rises s (takeOf s e room .written) (takeOf s e room .state)
-take-rises s e room = take-by s e room (Rises s) (rises-none s) (λ a. event-rises s e (a .acts .passes))
+pub take-rises : (s : State) (e : Event) (output : ℕ) → Rises s (takeOf s e output .written) (takeOf s e output .state)
+take-rises s e output = take-by s e output (Rises s) (rises-none s) (λ a. event-rises s e (a .acts .passes))
 
-pub step-rises : (s : State) (b : List ℕ) (room : ℕ) → Rises s (stepOf s b room .written) (stepOf s b room .state)
-step-rises s b room = step-by s b room (Rises s) (rises-none s) (λ e. take-rises s e room)
+pub step-rises : (s : State) (b : List ℕ) (output : ℕ) → Rises s (stepOf s b output .written) (stepOf s b output .state)
+step-rises s b output = step-by s b output (Rises s) (rises-none s) (λ e. take-rises s e output)

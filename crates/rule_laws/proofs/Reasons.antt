@@ -1,6 +1,6 @@
 -- Which numbers come back: a step gives 0 or one of its reasons, making a state gives 0 or 1.
 use mathlib.Core.Path.{_≡_, refl}
-use mathlib.Core.Bool.{true, _&&_, not}
+use mathlib.Core.Bool.{Bool, true, _&&_, not}
 use mathlib.Core.Logic.{_⊎_, inl, inr}
 use mathlib.Core.List.{List}
 use Prim.Native.Nat.{ℕ, _≤_}
@@ -11,15 +11,16 @@ use Rattle.laws.proofs.Checks.{first-by}
 use Rattle.laws.proofs.Fin.{if-cases, as-facts}
 use Rattle.records.specs.Layout.{formOf, checkFor, checkOf}
 use Rattle.rules.specs.State.{State}
-use Rattle.rules.specs.Refusals.{wellFormed, fullRoom, Made, madeOf, unreadable, Event, aReport, aProposal, eventOf}
+use Rattle.rules.specs.Refusals.{wellFormed, fullRoom, Made, madeOf, readChecks, readCheck, unreadable, Event, aReport, aProposal, eventOf}
 use Rattle.rules.specs.Refusals.{proposalChecks, refusalOf}
 use Rattle.rules.specs.Refusals.{ruleOf, Result, accepting, actOf, stepOf}
 
--- 0, from 2 to 13, or 19
+-- 0, from 2 to 13, 19 or 20
 pub data Answer (n : ℕ) : Type 0 where
   accepts : n ≡ 0 → Answer n
   refuses : 2 ≤ n → n ≤ 13 → Answer n
   uses-itself : n ≡ 19 → Answer n
+  no-room : n ≡ 20 → Answer n
 
 reason : (n : ℕ) → leb 2 n && leb n 13 ≡ true → Answer n
 reason n e = let f = simp as-facts at e in refuses (f .0) (f .1)
@@ -31,12 +32,16 @@ checked-answer b =
     if-cases Answer (eqb n 0) _ _ (λ e. reason 4 refl)
     (λ e. if-cases Answer (eqb (length b) n) _ _ (λ f. accepts refl) (λ f. reason 5 refl))
 
-unreadable-answer : (s : State) (b : List ℕ) (room : ℕ) → Answer (unreadable s b room)
+read-answer : (b : List ℕ) → Answer (readCheck b)
+unfolding readCheck
+read-answer b = first-by Answer (accepts refl) (readChecks b) (more (λ e. checked-answer b) (more (λ e. no-room refl) none))
+
+pub unreadable-answer : (well : Bool) (b : List ℕ) (output : ℕ) → Answer (unreadable well b output)
 unfolding unreadable
-unreadable-answer s b room =
-    if-cases Answer (not (wellFormed s)) _ _ (λ e. reason 2 refl)
-    (λ e. if-cases Answer (ltb room fullRoom) _ _ (λ e. reason 3 refl)
-    (λ e. if-cases Answer (not (eqb (checkOf b) 0)) _ _ (λ e. checked-answer b) (λ e. accepts refl)))
+unreadable-answer well b output =
+    if-cases Answer (not well) _ _ (λ e. reason 2 refl)
+    (λ e. if-cases Answer (ltb output fullRoom) _ _ (λ e. reason 3 refl)
+    (λ e. if-cases Answer (not (eqb (readCheck b) 0)) _ _ (λ e. read-answer b) (λ e. accepts refl)))
 
 event-answer : (s : State) (e : Event) → Answer (refusalOf s e)
 unfolding proposalChecks
@@ -46,17 +51,17 @@ event-answer s (aProposal p) = first-by Answer (accepts refl) (proposalChecks s 
     (more (λ e. reason 10 refl) (more (λ e. uses-itself refl) (more (λ e. reason 11 refl)
     (more (λ e. reason 12 refl) none))))))))
 
-act-answer : (s : State) (e : Event) → Answer (actOf s e .refusal)
+pub act-answer : (s : State) (e : Event) → Answer (actOf s e .refusal)
 unfolding actOf accepting
 act-answer s e = if-cases (λ (r : Result). Answer (r .refusal)) (eqb (refusalOf s e) 0) _ _
     (λ t. if-cases (λ (r : Result). Answer (r .refusal)) (wellFormed (ruleOf s e .state)) _ _ (λ w. accepts refl)
     (λ w. reason 13 refl))
     (λ t. event-answer s e)
 
-pub step-answer : (s : State) (b : List ℕ) (room : ℕ) → Answer (stepOf s b room .refusal)
+pub step-answer : (s : State) (b : List ℕ) (output : ℕ) → Answer (stepOf s b output .refusal)
 unfolding stepOf
-step-answer s b room = if-cases (λ (r : Result). Answer (r .refusal)) (eqb (unreadable s b room) 0) _ _
-    (λ t. act-answer s (eventOf b)) (λ t. unreadable-answer s b room)
+step-answer s b output = if-cases (λ (r : Result). Answer (r .refusal)) (eqb (unreadable (wellFormed s) b output) 0) _ _
+    (λ t. act-answer s (eventOf b)) (λ t. unreadable-answer (wellFormed s) b output)
 
 pub made-answer : (o : ℕ) → (madeOf o .refusal ≡ 0) ⊎ (madeOf o .refusal ≡ 1)
 unfolding madeOf

@@ -6,13 +6,12 @@ use mathlib.Core.List.{List}
 use Prim.Native.Nat.{ℕ, _^_, _≤_, _<_}
 use borrow.Author.Tests.{eq-eqb, eqb-true, eqb-false}
 use Rattle.seats.proofs.Laws.{joined-again}
-use Rattle.records.specs.Layout.{checkOf}
 use Rattle.records.specs.Fits.{FitsReport}
 use Rattle.records.specs.declared.Report.{Report}
 use Rattle.rules.specs.State.{State}
 use Rattle.rules.specs.Rules.{nothingWritten, netAfter, withNet, repeats, changeRule, reportRule}
-use Rattle.rules.specs.Refusals.{wellFormed, fullRoom, aReport, eventOf, actOf, stepOf, accepted}
-use Rattle.rule_laws.proofs.Steps.{AcceptsEvent, act-accepts, step-accepts}
+use Rattle.rules.specs.Refusals.{readCheck, wellFormed, fullRoom, aReport, eventOf, actOf, stepOf, accepted}
+use Rattle.rule_laws.proofs.Steps.{read-facts, AcceptsEvent, act-accepts, step-accepts}
 
 module _ (s : State) (r : Report) where
   abbrev net : ℕ
@@ -52,10 +51,17 @@ module _ (s : State) (r : Report) where
     pub repeat-acts : actOf s (aReport r) ≡ accepted (nothingWritten s)
     repeat-acts = act-accepts s (aReport r) repeat-accepted ∙ ap accepted (repeat-rule e)
 
-    pub repeat-step : (b : List ℕ) (room : ℕ) → fullRoom ≤ room → checkOf b ≡ 0 → eventOf b ≡ aReport r
-        → stepOf s b room ≡ accepted (nothingWritten s)
-    repeat-step b room fits read is =
-        step-accepts s b room (record { well = well; fits = fits; readable = read; acts = rw is repeat-accepted })
+    pub repeat-step : (b : List ℕ) (output : ℕ) → fullRoom ≤ output → readCheck b ≡ 0 → eventOf b ≡ aReport r
+        → stepOf s b output ≡ accepted (nothingWritten s)
+    repeat-step b output fits read is =
+        let f = read-facts b .0 read in
+        step-accepts s b output (record {
+          well = well;
+          fits = fits;
+          readable = f .0;
+          in-room = f .1;
+          acts = rw is repeat-accepted;
+        })
         ∙ rw is (ap accepted (repeat-rule e))
 
 -- where a report has made the net view, the same report again is a repeat

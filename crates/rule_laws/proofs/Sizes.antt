@@ -13,7 +13,7 @@ use Rattle.laws.proofs.Tab.{length-tab}
 use Rattle.laws.specs.Upd.{ifb, upd}
 use Rattle.laws.proofs.Upd.{upd-same, upd-other}
 use Rattle.seats.specs.Offices.{serves}
-use Rattle.records.specs.Layout.{noticeLength, proposalLength, viewLength}
+use Rattle.records.specs.Layout.{noticeLength, proposalLength, viewLength, encodeNotice, encodeProposal, encodeView}
 use Rattle.records.proofs.Lengths.{proposal-length, notice-length, view-length}
 use Rattle.records.specs.declared.Report.{Report}
 use Rattle.records.specs.declared.Proposal.{Proposal}
@@ -29,39 +29,56 @@ use Rattle.rule_laws.proofs.Monotone.{next-above-stored}
 use Rattle.rule_laws.proofs.Parts.{proposed-reads}
 use Rattle.rule_laws.proofs.Tests.{Agreeing, agreed-in, agreed-out, slow-above}
 
-pub bytes-append : (a b : List Written) → allBytes (a ++ b) ≡ allBytes a ++ allBytes b
+pub bytes-append : (room : ℕ) (a b : List Written) → allBytes room (a ++ b) ≡ allBytes room a ++ allBytes room b
 unfolding allBytes
-bytes-append [] b = refl
-bytes-append (w ∷ a) b = ap (λ (l : List ℕ). bytesOf w ++ l) (bytes-append a b)
-    ∙ sym (append-assoc (bytesOf w) (allBytes a) (allBytes b))
+bytes-append room [] b = refl
+bytes-append room (w ∷ a) b = ap (λ (l : List ℕ). bytesOf room w ++ l) (bytes-append room a b)
+    ∙ sym (append-assoc (bytesOf room w) (allBytes room a) (allBytes room b))
 
 pub size-append : (a b : List Written) → size (a ++ b) ≡ size a + size b
-size-append a b = ap length (bytes-append a b) ∙ length-append (allBytes a) (allBytes b)
+size-append a b = ap length (bytes-append 0 a b) ∙ length-append (allBytes 0 a) (allBytes 0 b)
 
-pub bytes-one : (w : Written) → allBytes (w ∷ []) ≡ bytesOf w
+pub bytes-one : (room : ℕ) (w : Written) → allBytes room (w ∷ []) ≡ bytesOf room w
 unfolding allBytes
-bytes-one w = append-nil (bytesOf w)
+bytes-one room w = append-nil (bytesOf room w)
+
+-- the room does not count
+one-size : (room : ℕ) (w : Written) → length (bytesOf room w) ≡ length (bytesOf 0 w)
+unfolding encodeNotice encodeProposal encodeView
+one-size room (notice n) = refl
+one-size room (proposal p) = refl
+one-size room (view v) = refl
+
+pub size-bytes : (room : ℕ) (ws : List Written) → length (allBytes room ws) ≡ size ws
+unfolding allBytes
+size-bytes room [] = refl
+size-bytes room (w ∷ ws) =
+    let a = length-append (bytesOf room w) (allBytes room ws) in
+    let b = length-append (bytesOf 0 w) (allBytes 0 ws) in
+    let c = one-size room w in
+    let d = size-bytes room ws in
+    omega arith
 
 then-size : (o : Outcome) (f : State → Outcome)
     → size (andThen o f .written) ≡ size (o .written) + size (f (o .state) .written)
 unfolding andThen
 then-size o f = size-append (o .written) (f (o .state) .written)
 
-size-one : (w : Written) → size (w ∷ []) ≡ length (bytesOf w)
-size-one w = ap length (bytes-one w)
+size-one : (w : Written) → size (w ∷ []) ≡ length (bytesOf 0 w)
+size-one w = ap length (bytes-one 0 w)
 
 -- each part: a notice, a proposal, a view
 opens-size : (s : State) → size (opens s .written) ≡ noticeLength
 unfolding opens
-opens-size s = size-one (notice (noticeOf (opened s))) ∙ notice-length (noticeOf (opened s))
+opens-size s = size-one (notice (noticeOf (opened s))) ∙ notice-length 0 (noticeOf (opened s))
 
 own-size : (m : Mode) (n : ℕ) (s : State) → size (proposal (ownProposal m n s) ∷ []) ≡ proposalLength
 unfolding ownProposal
-own-size m n s = size-one (proposal (ownProposal m n s)) ∙ proposal-length (ownProposal m n s) (length-tab 16 _)
+own-size m n s = size-one (proposal (ownProposal m n s)) ∙ proposal-length 0 (ownProposal m n s) (length-tab 16 _)
 
 view-size : (s : State) → size (concludes s .written) ≡ viewLength
 unfolding viewOf
-view-size s = size-one (view (viewOf s)) ∙ view-length (viewOf s) (length-tab 16 _)
+view-size s = size-one (view (viewOf s)) ∙ view-length 0 (viewOf s) (length-tab 16 _)
 
 none-size : size [] ≡ 0
 unfolding allBytes
@@ -327,15 +344,15 @@ pub change-size : (t : State) → size (changeRule t .written) ≤ fullRoom
 unfolding greatest
 change-size t = at-most reportSizes _ (change-sizes t)
 
--- whatever the event, and whatever the bytes and the room
+-- whatever the event, and whatever the bytes and the output
 pub event-size : (s : State) (e : Event) → size (ruleOf s e .written) ≤ fullRoom
 unfolding greatest
 event-size s (aReport r) = at-most reportSizes _ (report-sizes s r)
 event-size s (aProposal p) = let a = at-most proposalSizes _ (proposal-sizes s p) in omega arith
 
-pub step-size : (s : State) (b : List ℕ) (room : ℕ) → size (stepOf s b room .written) ≤ fullRoom
-step-size s b room = go (step-cases s b room)
+pub step-size : (s : State) (b : List ℕ) (output : ℕ) → size (stepOf s b output .written) ≤ fullRoom
+step-size s b output = go (step-cases s b output)
   where
-    go : Refused s (stepOf s b room) ⊎ Accepts s b room → size (stepOf s b room .written) ≤ fullRoom
+    go : Refused s (stepOf s b output) ⊎ Accepts s b output → size (stepOf s b output .written) ≤ fullRoom
     go (inl r) = rw (r .is, none-size) (omega arith)
-    go (inr a) = rw (step-accepts s b room a) (event-size s (eventOf b))
+    go (inr a) = rw (step-accepts s b output a) (event-size s (eventOf b))

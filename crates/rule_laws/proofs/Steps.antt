@@ -14,14 +14,14 @@ use Rattle.laws.proofs.Checks.{first-none, no-reason}
 use Rattle.laws.proofs.Fin.{as-facts, or-cases, true-false}
 use Rattle.laws.proofs.Tab.{getD-tab}
 use Rattle.seats.specs.Offices.{serves}
-use Rattle.records.specs.Numbers.{limit, within}
+use Rattle.records.specs.Numbers.{limit, within, roomCount, roomAbove}
+use Rattle.records.specs.Layout.{checkOf, roomOf}
 use Rattle.records.proofs.NumberLaws.{stray-out, stray-in}
-use Rattle.records.specs.Layout.{checkOf}
 use Rattle.records.specs.declared.Proposal.{Proposal}
 use Rattle.rules.specs.State.{Slot, State, fast, slow, storedAt, acceptedAt, usedAt, usedFor}
 use Rattle.rules.specs.Rules.{Written, fresh, restarted}
 use Rattle.rule_laws.proofs.Parts.{restarted-reads, restarted-view, fresh-restarted}
-use Rattle.rules.specs.Refusals.{fullRoom, slotWithin, wellFormed, unreadable, Event, eventOf, wrongSender, wrongKind}
+use Rattle.rules.specs.Refusals.{fullRoom, slotWithin, wellFormed, readCheck, unreadable, Event, eventOf, wrongSender, wrongKind}
 use Rattle.rules.specs.Refusals.{wrongNumber, withoutSeat, strayUsed, usesItself, notAbove, usedAhead}
 use Rattle.rules.specs.Refusals.{proposalChecks, refusalOf, ruleOf, Result, refused, accepted, accepting, actOf}
 use Rattle.rules.specs.Refusals.{takeOf, stepOf}
@@ -180,10 +180,11 @@ pub record AcceptsEvent (s : State) (e : Event) : Type 0 where
   pub within : wellFormed (ruleOf s e .state) ≡ true
 
 -- the step accepts: every check passes
-pub record Accepts (s : State) (b : List ℕ) (room : ℕ) : Type 0 where
+pub record Accepts (s : State) (b : List ℕ) (output : ℕ) : Type 0 where
   pub well : wellFormed s ≡ true
-  pub fits : fullRoom ≤ room
+  pub fits : fullRoom ≤ output
   pub readable : checkOf b ≡ 0
+  pub in-room : roomOf b < roomCount
   pub acts : AcceptsEvent s (eventOf b)
 
 pub act-accepts : (s : State) (e : Event) → AcceptsEvent s e → actOf s e ≡ accepted (ruleOf s e)
@@ -201,127 +202,139 @@ act-cases s e = go (ℕ-discrete (refusalOf s e) 0) (wellFormed (ruleOf s e .sta
     go (yes z) false w = inl (rw (z, w) (record { reason = omega arith; is = refl }))
 
 -- an event is taken: checks 2 and 3 pass too
-pub record Takes (s : State) (e : Event) (room : ℕ) : Type 0 where
+pub record Takes (s : State) (e : Event) (output : ℕ) : Type 0 where
   pub well : wellFormed s ≡ true
-  pub fits : fullRoom ≤ room
+  pub fits : fullRoom ≤ output
   pub acts : AcceptsEvent s e
 
-pub take-accepts : (s : State) (e : Event) (room : ℕ) → Takes s e room → takeOf s e room ≡ accepted (ruleOf s e)
+pub take-accepts : (s : State) (e : Event) (output : ℕ) → Takes s e output → takeOf s e output ≡ accepted (ruleOf s e)
 unfolding takeOf
-take-accepts s e room h = rw (h .well, le-ltb room fullRoom (h .fits)) (act-accepts s e (h .acts))
+take-accepts s e output h = rw (h .well, le-ltb output fullRoom (h .fits)) (act-accepts s e (h .acts))
 
-pub take-cases : (s : State) (e : Event) (room : ℕ) → Refused s (takeOf s e room) ⊎ Takes s e room
+pub take-cases : (s : State) (e : Event) (output : ℕ) → Refused s (takeOf s e output) ⊎ Takes s e output
 unfolding takeOf
-take-cases s e room = go (wellFormed s) refl (ltb room fullRoom) refl (act-cases s e)
+take-cases s e output = go (wellFormed s) refl (ltb output fullRoom) refl (act-cases s e)
   where
-    go : (t : Bool) → wellFormed s ≡ t → (u : Bool) → ltb room fullRoom ≡ u → Refused s (actOf s e) ⊎ AcceptsEvent s e
-        → Refused s (takeOf s e room) ⊎ Takes s e room
+    go : (t : Bool) → wellFormed s ≡ t → (u : Bool) → ltb output fullRoom ≡ u → Refused s (actOf s e) ⊎ AcceptsEvent s e
+        → Refused s (takeOf s e output) ⊎ Takes s e output
     go false p u q a = inl (rw p (record { reason = omega arith; is = refl }))
     go true p true q a = inl (rw (p, q) (record { reason = omega arith; is = refl }))
     go true p false q (inl r) = inl (rw (p, q) r)
-    go true p false q (inr a) = inr (record { well = p; fits = ltb-false room fullRoom q; acts = a })
+    go true p false q (inr a) = inr (record { well = p; fits = ltb-false output fullRoom q; acts = a })
 
 -- a state that passes check 2 passes it after every event
-pub take-well : (s : State) (e : Event) (room : ℕ) → wellFormed s ≡ true → wellFormed (takeOf s e room .state) ≡ true
-take-well s e room w = go (take-cases s e room)
+pub take-well : (s : State) (e : Event) (output : ℕ) → wellFormed s ≡ true → wellFormed (takeOf s e output .state) ≡ true
+take-well s e output w = go (take-cases s e output)
   where
-    go : Refused s (takeOf s e room) ⊎ Takes s e room → wellFormed (takeOf s e room .state) ≡ true
+    go : Refused s (takeOf s e output) ⊎ Takes s e output → wellFormed (takeOf s e output .state) ≡ true
     go (inl r) = rw (r .is) w
-    go (inr a) = rw (take-accepts s e room a) (a .acts .within)
+    go (inr a) = rw (take-accepts s e output a) (a .acts .within)
 
--- checks 2 to 5 pass
-pub readable-facts : (s : State) (b : List ℕ) (room : ℕ)
-    → (unreadable s b room ≡ 0) ↔ ((wellFormed s ≡ true) × (fullRoom ≤ room) × (checkOf b ≡ 0))
-unfolding unreadable
-readable-facts s b room = (
+-- checks 4, 5 and 20 pass
+pub read-facts : (b : List ℕ) → (readCheck b ≡ 0) ↔ ((checkOf b ≡ 0) × (roomOf b < roomCount))
+unfolding readCheck
+read-facts b = (
   λ e.
-      let c2 = first-none (not (wellFormed s)) 1 _ .0 e in
-      let c3 = first-none (ltb room fullRoom) 2 _ .0 (c2 .1) in
-      (not-false _ (c2 .0), ltb-false room fullRoom (c3 .0), no-reason (checkOf b) 0 (c3 .1) .0),
-  λ h. rw (h .0, le-ltb room fullRoom (h .1), h .2),
+      let c4 = no-reason (checkOf b) _ e in
+      let c20 = first-none (roomAbove (roomOf b)) 19 0 .0 (c4 .1) in
+      (c4 .0, leb-false roomCount (roomOf b) (c20 .0)),
+  λ h. rw (h .0, lt-leb roomCount (roomOf b) (h .1)),
 )
 
-pub step-accepts : (s : State) (b : List ℕ) (room : ℕ) → Accepts s b room
-    → stepOf s b room ≡ accepted (ruleOf s (eventOf b))
+-- checks 2 to 5 and 20 pass
+pub readable-facts : (well : Bool) (b : List ℕ) (output : ℕ)
+    → (unreadable well b output ≡ 0) ↔ ((well ≡ true) × (fullRoom ≤ output) × (readCheck b ≡ 0))
+unfolding unreadable
+readable-facts well b output = (
+  λ e.
+      let c2 = first-none (not well) 1 _ .0 e in
+      let c3 = first-none (ltb output fullRoom) 2 _ .0 (c2 .1) in
+      (not-false _ (c2 .0), ltb-false output fullRoom (c3 .0), no-reason (readCheck b) 0 (c3 .1) .0),
+  λ h. rw (h .0, le-ltb output fullRoom (h .1), h .2),
+)
+
+pub step-accepts : (s : State) (b : List ℕ) (output : ℕ) → Accepts s b output
+    → stepOf s b output ≡ accepted (ruleOf s (eventOf b))
 unfolding stepOf
-step-accepts s b room h =
-    let r = readable-facts s b room .1 (h .well, h .fits, h .readable) in
+step-accepts s b output h =
+    let r = readable-facts (wellFormed s) b output .1 (h .well, h .fits, read-facts b .1 (h .readable, h .in-room)) in
     rw r (act-accepts s (eventOf b) (h .acts))
 
-pub step-cases : (s : State) (b : List ℕ) (room : ℕ) → Refused s (stepOf s b room) ⊎ Accepts s b room
+pub step-cases : (s : State) (b : List ℕ) (output : ℕ) → Refused s (stepOf s b output) ⊎ Accepts s b output
 unfolding stepOf
-step-cases s b room = go (ℕ-discrete (unreadable s b room) 0) (act-cases s (eventOf b))
+step-cases s b output = go (ℕ-discrete (unreadable (wellFormed s) b output) 0) (act-cases s (eventOf b))
   where
-    go : Dec (unreadable s b room ≡ 0) → Refused s (actOf s (eventOf b)) ⊎ AcceptsEvent s (eventOf b)
-        → Refused s (stepOf s b room) ⊎ Accepts s b room
-    go (no n) a = inl (rw (ne-eqb (unreadable s b room) 0 n) (record { reason = n; is = refl }))
+    go : Dec (unreadable (wellFormed s) b output ≡ 0) → Refused s (actOf s (eventOf b)) ⊎ AcceptsEvent s (eventOf b)
+        → Refused s (stepOf s b output) ⊎ Accepts s b output
+    go (no n) a = inl (rw (ne-eqb (unreadable (wellFormed s) b output) 0 n) (record { reason = n; is = refl }))
     go (yes z) (inl r) = inl (rw z r)
     go (yes z) (inr a) =
-        let f = readable-facts s b room .0 z in
-        inr (record { well = f .0; fits = f .1; readable = f .2; acts = a })
+        let f = readable-facts (wellFormed s) b output .0 z in
+        let r = read-facts b .0 (f .2) in
+        inr (record { well = f .0; fits = f .1; readable = r .0; in-room = r .1; acts = a })
 
--- the step on bytes that pass checks 4 and 5 takes the event that they hold
-pub step-takes : (s : State) (b : List ℕ) (room : ℕ) → checkOf b ≡ 0 → stepOf s b room ≡ takeOf s (eventOf b) room
+-- the step on bytes that pass checks 4, 5 and 20 takes the event that they hold
+pub step-takes : (s : State) (b : List ℕ) (output : ℕ) → readCheck b ≡ 0 → stepOf s b output ≡ takeOf s (eventOf b) output
 unfolding stepOf unreadable takeOf
-step-takes s b room e = go (wellFormed s) refl (ltb room fullRoom) refl
+step-takes s b output e = go (wellFormed s) refl (ltb output fullRoom) refl
   where
-    go : (t : Bool) → wellFormed s ≡ t → (u : Bool) → ltb room fullRoom ≡ u
-        → stepOf s b room ≡ takeOf s (eventOf b) room
+    go : (t : Bool) → wellFormed s ≡ t → (u : Bool) → ltb output fullRoom ≡ u
+        → stepOf s b output ≡ takeOf s (eventOf b) output
     go true p true q = rw (p, q)
     go true p false q = rw (p, q, e)
     go false p u q = rw p
 
 -- other bytes leave the state and have nothing written
-pub step-skips : (s : State) (b : List ℕ) (room : ℕ) → (checkOf b ≡ 0 → ⊥) → (stepOf s b room .state ≡ s)
-    × (stepOf s b room .written ≡ [])
-step-skips s b room n = go (step-cases s b room)
+pub step-skips : (s : State) (b : List ℕ) (output : ℕ) → (readCheck b ≡ 0 → ⊥) → (stepOf s b output .state ≡ s)
+    × (stepOf s b output .written ≡ [])
+step-skips s b output n = go (step-cases s b output)
   where
-    go : Refused s (stepOf s b room) ⊎ Accepts s b room → (stepOf s b room .state ≡ s)
-        × (stepOf s b room .written ≡ [])
+    go : Refused s (stepOf s b output) ⊎ Accepts s b output → (stepOf s b output .state ≡ s)
+        × (stepOf s b output .written ≡ [])
     go (inl r) = (ap (λ (q : Result). q .state) (r .is), ap (λ (q : Result). q .written) (r .is))
-    go (inr a) = absurd (n (a .readable))
+    go (inr a) = absurd (n (read-facts b .1 (a .readable, a .in-room)))
 
 -- what holds of nothing done and of the rule of every event that is taken holds of an event, taken or not
-pub take-by : (s : State) (e : Event) (room : ℕ) (P : List Written → State → Type 0) → P [] s
-    → (Takes s e room → P (ruleOf s e .written) (ruleOf s e .state))
-    → P (takeOf s e room .written) (takeOf s e room .state)
-take-by s e room P z h = go (take-cases s e room)
+pub take-by : (s : State) (e : Event) (output : ℕ) (P : List Written → State → Type 0) → P [] s
+    → (Takes s e output → P (ruleOf s e .written) (ruleOf s e .state))
+    → P (takeOf s e output .written) (takeOf s e output .state)
+take-by s e output P z h = go (take-cases s e output)
   where
-    go : Refused s (takeOf s e room) ⊎ Takes s e room → P (takeOf s e room .written) (takeOf s e room .state)
+    go : Refused s (takeOf s e output) ⊎ Takes s e output → P (takeOf s e output .written) (takeOf s e output .state)
     go (inl r) = rw (r .is) z
-    go (inr a) = rw (take-accepts s e room a) (h a)
+    go (inr a) = rw (take-accepts s e output a) (h a)
 
 -- what holds of nothing done and of every event, taken or not, holds of the step
-pub step-by : (s : State) (b : List ℕ) (room : ℕ) (P : List Written → State → Type 0) → P [] s
-    → ((e : Event) → P (takeOf s e room .written) (takeOf s e room .state))
-    → P (stepOf s b room .written) (stepOf s b room .state)
-step-by s b room P z h = go (ℕ-discrete (checkOf b) 0)
+pub step-by : (s : State) (b : List ℕ) (output : ℕ) (P : List Written → State → Type 0) → P [] s
+    → ((e : Event) → P (takeOf s e output .written) (takeOf s e output .state))
+    → P (stepOf s b output .written) (stepOf s b output .state)
+step-by s b output P z h = go (ℕ-discrete (readCheck b) 0)
   where
-    go : Dec (checkOf b ≡ 0) → P (stepOf s b room .written) (stepOf s b room .state)
-    go (yes e) = rw (step-takes s b room e) (h (eventOf b))
-    go (no n) = let k = step-skips s b room n in rw (k .0, k .1) z
+    go : Dec (readCheck b ≡ 0) → P (stepOf s b output .written) (stepOf s b output .state)
+    go (yes e) = rw (step-takes s b output e) (h (eventOf b))
+    go (no n) = let k = step-skips s b output n in rw (k .0, k .1) z
 
 -- a refusal leaves the state and writes nothing
-pub refused-keeps : (s : State) (b : List ℕ) (room : ℕ) → (stepOf s b room .refusal ≡ 0 → ⊥)
-    → stepOf s b room ≡ refused (stepOf s b room .refusal) s
-refused-keeps s b room n = go (step-cases s b room)
+pub refused-keeps : (s : State) (b : List ℕ) (output : ℕ) → (stepOf s b output .refusal ≡ 0 → ⊥)
+    → stepOf s b output ≡ refused (stepOf s b output .refusal) s
+refused-keeps s b output n = go (step-cases s b output)
   where
-    go : Refused s (stepOf s b room) ⊎ Accepts s b room → stepOf s b room ≡ refused (stepOf s b room .refusal) s
+    go : Refused s (stepOf s b output) ⊎ Accepts s b output → stepOf s b output ≡ refused (stepOf s b output .refusal) s
     go (inl r) = r .is
-    go (inr a) = absurd (n (ap (λ (r : Result). r .refusal) (step-accepts s b room a)))
+    go (inr a) = absurd (n (ap (λ (r : Result). r .refusal) (step-accepts s b output a)))
 
 -- an accepted step passes every check
-pub zero-accepts : (s : State) (b : List ℕ) (room : ℕ) → stepOf s b room .refusal ≡ 0 → Accepts s b room
-zero-accepts s b room z = go (step-cases s b room)
+pub zero-accepts : (s : State) (b : List ℕ) (output : ℕ) → stepOf s b output .refusal ≡ 0 → Accepts s b output
+zero-accepts s b output z = go (step-cases s b output)
   where
-    go : Refused s (stepOf s b room) ⊎ Accepts s b room → Accepts s b room
+    go : Refused s (stepOf s b output) ⊎ Accepts s b output → Accepts s b output
     go (inl r) = absurd (r .reason z)
     go (inr a) = a
 
 -- an accepted step leaves a state that passes check 2
-pub step-well : (s : State) (b : List ℕ) (room : ℕ) → wellFormed s ≡ true → wellFormed (stepOf s b room .state) ≡ true
-step-well s b room w = go (step-cases s b room)
+pub step-well : (s : State) (b : List ℕ) (output : ℕ) → wellFormed s ≡ true → wellFormed (stepOf s b output .state) ≡ true
+step-well s b output w = go (step-cases s b output)
   where
-    go : Refused s (stepOf s b room) ⊎ Accepts s b room → wellFormed (stepOf s b room .state) ≡ true
+    go : Refused s (stepOf s b output) ⊎ Accepts s b output → wellFormed (stepOf s b output .state) ≡ true
     go (inl r) = rw (r .is) w
-    go (inr a) = rw (step-accepts s b room a) (a .acts .within)
+    go (inr a) = rw (step-accepts s b output a) (a .acts .within)

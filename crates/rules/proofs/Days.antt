@@ -24,7 +24,7 @@ unfolding refusals reasons given
 each-reason =
     refl then refl then refl then refl then refl then refl then refl then refl then refl then refl then refl then refl
     then refl then refl
-    then refl then refl then refl then refl then refl then refl
+    then refl then refl then refl then refl then refl then refl then refl then refl then refl then refl
 
 pub self-uses : selfUseComputed ≡ selfUseStated
 unfolding selfUseComputed selfUseStated dayA dayB dayC dayE dayJ nearLimit atLimit given

@@ -2,5 +2,5 @@
 use mathlib.Core.Path.{_≡_, refl}
 use Rattle.rules.specs.Refusals.{fullRoom}
 
-pub room-is-182 : fullRoom ≡ 182
-room-is-182 = refl
+pub room-is-185 : fullRoom ≡ 185
+room-is-185 = refl

@@ -1,4 +1,4 @@
--- The worked days at office 0 that document 01 marks with *, N as change request 2 has it, and a day at the ceiling:
+-- The worked days at office 0, in room 0, that document 01 marks with *, N as change request 2 has it, and a day at the ceiling:
 -- what comes of each by the rules, and what the documents say.
 use mathlib.Core.List.{List, [], _∷_, _++_}
 use Prim.Native.Nat.{ℕ, _+_, _-_}
@@ -11,7 +11,7 @@ use Rattle.laws.specs.Bit.{bit}
 use Rattle.seats.specs.Seats.{has, unionOf, withoutOf}
 use Rattle.seats.specs.Offices.{serves}
 use Rattle.records.specs.Layout.{encodeReport, decodeReport, encodeProposal, decodeProposal, encodeNotice, encodeView}
-use Rattle.records.specs.Layout.{markOf, formFor, formOf, checkFor, checkOf}
+use Rattle.records.specs.Layout.{roomOf, markOf, formFor, formOf, checkFor, checkOf}
 use Rattle.rules.specs.State.{None, Fast, State, fast, slow}
 use Rattle.rules.specs.Rules.{Written, notice, proposal, view, andThen, fresh, restarted, netAfter, withNet}
 use Rattle.rules.specs.Rules.{repeats, seated, opened, noticeOf, opens, nextNumber, ownProposal, proposed}
@@ -20,9 +20,9 @@ use Rattle.rules.specs.Rules.{slowCalled, joinedNumber, slowNumber, prop
 use Rattle.rules.specs.Rules.{agreed, startOf, viewOf, concluded, agreementTest, tests, changeRule, reportRule}
 use Rattle.rules.specs.Rules.{proposalRule}
 use Rattle.records.specs.Numbers.{limit}
-use Rattle.rules.specs.Refusals.{Result, slotWithin, wellFormed, unreadable, eventOf, wrongSender, wrongKind}
+use Rattle.rules.specs.Refusals.{Result, slotWithin, wellFormed, readCheck, unreadable, eventOf, wrongSender, wrongKind}
 use Rattle.rules.specs.Refusals.{wrongNumber, withoutSeat, strayUsed, usesItself, notAbove, usedAhead}
-use Rattle.rules.specs.Refusals.{proposalChecks, accepting, actOf, takeOf, fullRoom, stepOf, allBytes}
+use Rattle.rules.specs.Refusals.{proposalChecks, accepting, actOf, takeOf, fullRoom, stepOf, allBytes, size}
 
 -- what is seen of a day: the refusal or 0, the bytes written, the records they are, the current view number
 pub record Day : Type 0 where
@@ -35,7 +35,7 @@ abbrev seen : Result → Day
 seen r =
     record {
       refusal = r .refusal;
-      bytes = length (allBytes (r .written));
+      bytes = size (r .written);
       written = r .written;
       view = r .state .view .number;
     }
@@ -60,18 +60,18 @@ two a b = a ∷ b ∷ tab 14 (λ o. 0)
 -- a record handed in, with the least output; to unfold it is to unfold the rules
 unfoldable pub given : State → List ℕ → Result
 unfolding upd allb anyb largest tab bytesAll bit has unionOf withoutOf serves encodeReport decodeReport encodeProposal
-    decodeProposal encodeNotice encodeView markOf formFor formOf checkFor checkOf andThen fresh restarted netAfter
+    decodeProposal encodeNotice encodeView roomOf markOf formFor formOf checkFor checkOf andThen fresh restarted netAfter
     withNet repeats seated opened noticeOf opens nextNumber ownProposal proposed receives proposesFast received
     matching matchingSlow aboveOwn usesOwn slowCalled joinedNumber slowNumber proposesSlow slowTest agreesKind isNone
     agreed startOf viewOf concluded agreementTest tests changeRule reportRule proposalRule slotWithin wellFormed
-    unreadable eventOf wrongSender wrongKind wrongNumber withoutSeat strayUsed usesItself notAbove usedAhead
+    readCheck unreadable eventOf wrongSender wrongKind wrongNumber withoutSeat strayUsed usesItself notAbove usedAhead
     proposalChecks accepting actOf takeOf stepOf allBytes
 given s b = stepOf s b fullRoom
 
 -- what is handed in: a report of joining and of leaving seats, one of joining seats only, and P of document 01
 abbrev pub reported : State → ℕ → ℕ → Result
 reported s joining leaving =
-    given s (encodeReport (record { joining = record { bits = joining }; leaving = record { bits = leaving } }))
+    given s (encodeReport 0 (record { joining = record { bits = joining }; leaving = record { bits = leaving } }))
 
 abbrev report : State → ℕ → Result
 report s joining = reported s joining 0
@@ -79,7 +79,7 @@ report s joining = reported s joining 0
 abbrev P : State → ℕ → ℕ → ℕ → ℕ → ℕ → Result
 P s kind start number used0 used1 =
     given s
-    (encodeProposal
+    (encodeProposal 0
     (record {
       sender = 1;
       kind = kind;
@@ -179,28 +179,28 @@ refuses refusal current = record { refusal = refusal; bytes = 0; written = []; v
 -- the days as the documents have them
 unfoldable pub stated : List Day
 stated =
-    -- A: notice 1, view 2 with start 1; 92 bytes
-    accepts 92 (aNotice 1 seat0 ∷ aView 2 seat0 1 0 ∷ []) 2
-    -- B: notice 2, fast proposal number 2 with used 1, 0; 98 bytes
-    ∷ accepts 98 (aNotice 2 both ∷ aFast 2 2 1 0 ∷ []) 2
-    -- C: view 3, starts 2 and 1; 78 bytes
-    ∷ accepts 78 (aView 3 both 2 1 ∷ []) 3
+    -- A: notice 1, view 2 with start 1; 94 bytes
+    accepts 94 (aNotice 1 seat0 ∷ aView 2 seat0 1 0 ∷ []) 2
+    -- B: notice 2, fast proposal number 2 with used 1, 0; 100 bytes
+    ∷ accepts 100 (aNotice 2 both ∷ aFast 2 2 1 0 ∷ []) 2
+    -- C: view 3, starts 2 and 1; 79 bytes
+    ∷ accepts 79 (aView 3 both 2 1 ∷ []) 3
     -- D: 11
     ∷ refuses 11 3
-    -- E: notice 3, slow proposal number 3; 98 bytes
-    ∷ accepts 98 (aNotice 3 both ∷ aSlow 3 3 2 1 ∷ []) 3
+    -- E: notice 3, slow proposal number 3; 100 bytes
+    ∷ accepts 100 (aNotice 3 both ∷ aSlow 3 3 2 1 ∷ []) 3
     -- F: view 4, starts 3 and 3
-    ∷ accepts 78 (aView 4 both 3 3 ∷ []) 4
-    -- G: slow proposal number 3; 84 bytes
-    ∷ accepts 84 (aSlow 2 3 1 0 ∷ []) 2
+    ∷ accepts 79 (aView 4 both 3 3 ∷ []) 4
+    -- G: slow proposal number 3; 85 bytes
+    ∷ accepts 85 (aSlow 2 3 1 0 ∷ []) 2
     -- H: 12
     ∷ refuses 12 2
-    -- I: 0 bytes; then notice 1, fast number 6, slow number 7; 182 bytes
+    -- I: 0 bytes; then notice 1, fast number 6, slow number 7; 185 bytes
     ∷ accepts 0 [] 0
-    ∷ accepts 182 (aNotice 1 both ∷ aFast 1 6 0 0 ∷ aSlow 1 7 0 0 ∷ []) 0
-    -- J: accepted; then notice 1, fast number 2, view 2; 176 bytes
+    ∷ accepts 185 (aNotice 1 both ∷ aFast 1 6 0 0 ∷ aSlow 1 7 0 0 ∷ []) 0
+    -- J: accepted; then notice 1, fast number 2, view 2; 179 bytes
     ∷ accepts 0 [] 0
-    ∷ accepts 176 (aNotice 1 both ∷ aFast 1 2 0 0 ∷ aView 2 both 1 1 ∷ []) 2
+    ∷ accepts 179 (aNotice 1 both ∷ aFast 1 2 0 0 ∷ aView 2 both 1 1 ∷ []) 2
     -- K: accepted; then 13; with number L + 1, 8
     ∷ accepts 0 [] 0
     ∷ refuses 13 0
@@ -210,7 +210,7 @@ stated =
     -- at the ceiling: number L - 2 is accepted; then fast number L - 1, slow number L; an empty report does nothing;
     -- one that joins {8} gets 13
     ∷ accepts 0 [] 0
-    ∷ accepts 182 (aNotice 1 both ∷ aFast 1 (limit - 1) 0 0 ∷ aSlow 1 limit 0 0 ∷ []) 0
+    ∷ accepts 185 (aNotice 1 both ∷ aFast 1 (limit - 1) 0 0 ∷ aSlow 1 limit 0 0 ∷ []) 0
     ∷ accepts 0 [] 0
     ∷ refuses 13 0
     ∷ []
@@ -256,39 +256,39 @@ furtherStated =
     -- after G, a fast proposal with a higher number opens no new round
     accepts 0 [] 2
     -- after G, a used number that is the own one does, in mode slow too
-    ∷ accepts 84 (aSlow 2 5 1 0 ∷ []) 2
+    ∷ accepts 85 (aSlow 2 5 1 0 ∷ []) 2
     -- after G, a slow proposal with a higher number is joined, and agreed with
-    ∷ accepts 162 (aSlow 2 9 1 0 ∷ aView 5 both 2 4 ∷ []) 5
+    ∷ accepts 164 (aSlow 2 9 1 0 ∷ aView 5 both 2 4 ∷ []) 5
     -- after B, the own number goes above a fast proposal's, never to it
-    ∷ accepts 84 (aSlow 2 10 1 0 ∷ []) 2
+    ∷ accepts 85 (aSlow 2 10 1 0 ∷ []) 2
     -- after B, a slow proposal whose number is not above the own one is not joined
-    ∷ accepts 84 (aSlow 2 3 1 0 ∷ []) 2
+    ∷ accepts 85 (aSlow 2 3 1 0 ∷ []) 2
     -- after B, one whose number is above is joined, and agreed with
-    ∷ accepts 162 (aSlow 2 5 1 0 ∷ aView 3 both 2 1 ∷ []) 3
+    ∷ accepts 164 (aSlow 2 5 1 0 ∷ aView 3 both 2 1 ∷ []) 3
     -- after C, the same two in mode none: step 3 first
-    ∷ accepts 98 (aNotice 3 both ∷ aSlow 3 3 2 1 ∷ []) 3
-    ∷ accepts 176 (aNotice 3 both ∷ aSlow 3 5 2 1 ∷ aView 4 both 3 3 ∷ []) 4
+    ∷ accepts 100 (aNotice 3 both ∷ aSlow 3 3 2 1 ∷ []) 3
+    ∷ accepts 179 (aNotice 3 both ∷ aSlow 3 5 2 1 ∷ aView 4 both 3 3 ∷ []) 4
     -- after C, {4} leaves: view 4 of {0}; then {4} joins again: the used proposals are gone, so no view
-    ∷ accepts 92 (aNotice 3 seat0 ∷ aView 4 seat0 3 0 ∷ []) 4
-    ∷ accepts 98 (aNotice 4 both ∷ aFast 4 4 3 1 ∷ []) 4
+    ∷ accepts 94 (aNotice 3 seat0 ∷ aView 4 seat0 3 0 ∷ []) 4
+    ∷ accepts 100 (aNotice 4 both ∷ aFast 4 4 3 1 ∷ []) 4
     -- after C, two repeats: {0, 4, 8} joins and {8} leaves; {8} leaves
     ∷ accepts 0 [] 3
     ∷ accepts 0 [] 3
     -- after B, a proposal with start number 5: view 6; then {4} leaves: the start number rises to the view number
-    ∷ accepts 78 (aView 6 both 2 5 ∷ []) 6
-    ∷ accepts 92 (aNotice 6 seat0 ∷ aView 7 seat0 6 0 ∷ []) 7
+    ∷ accepts 79 (aView 6 both 2 5 ∷ []) 6
+    ∷ accepts 94 (aNotice 6 seat0 ∷ aView 7 seat0 6 0 ∷ []) 7
     -- after J's proposal from office 1, seat 0 joins alone: the view has no start number for office 1
-    ∷ accepts 92 (aNotice 1 seat0 ∷ aView 2 seat0 1 0 ∷ []) 2
+    ∷ accepts 94 (aNotice 1 seat0 ∷ aView 2 seat0 1 0 ∷ []) 2
     -- office 1 agrees with an own proposal that claims to have used itself: view 2
-    ∷ accepts 78 (aView 2 both 1 1 ∷ []) 2
+    ∷ accepts 79 (aView 2 both 1 1 ∷ []) 2
     ∷ []
 
--- An input for each reason to refuse from 2 to 10, and for 19, at a fresh office 0: the smallest change to what would
--- be accepted.
-abbrev from : ℕ → ℕ → ℕ → ℕ → ℕ → List ℕ → Result
-from sender kind members start number used =
+-- An input for each reason to refuse from 2 to 10, and for 19 and 20, at a fresh office 0: the smallest change to what
+-- would be accepted.
+abbrev fromIn : ℕ → ℕ → ℕ → ℕ → ℕ → ℕ → List ℕ → Result
+fromIn room sender kind members start number used =
     given before
-    (encodeProposal
+    (encodeProposal room
     (record {
       sender = sender;
       kind = kind;
@@ -298,17 +298,27 @@ from sender kind members start number used =
       used = used;
     }))
 
+abbrev from : ℕ → ℕ → ℕ → ℕ → ℕ → List ℕ → Result
+from = fromIn 0
+
+abbrev joinedIn : ℕ → List ℕ
+joinedIn room = encodeReport room (record { joining = record { bits = seat0 }; leaving = record { bits = 0 } })
+
 abbrev joined : List ℕ
-joined = encodeReport (record { joining = record { bits = seat0 }; leaving = record { bits = 0 } })
+joined = joinedIn 0
 
 unfoldable pub refusals : List ℕ
 refusals =
-    stepOf (fresh 16) joined 182 .refusal
-    ∷ stepOf before joined 181 .refusal
+    stepOf (fresh 16) joined 185 .refusal
+    ∷ stepOf before joined 184 .refusal
     ∷ given before [] .refusal
     ∷ given before (0x53 ∷ 0x43 ∷ []) .refusal
     ∷ given before (0x4e ∷ 0x45 ∷ []) .refusal
     ∷ given before (joined ++ (0 ∷ [])) .refusal
+    ∷ given before (joinedIn 8) .refusal
+    ∷ given before (joinedIn 7) .refusal
+    ∷ given before (joinedIn 8 ++ (0 ∷ [])) .refusal
+    ∷ fromIn 8 16 fast both 1 1 (two 0 0) .refusal
     ∷ from 16 fast both 1 1 (two 0 0) .refusal
     ∷ from 0 fast both 1 1 (two 0 0) .refusal
     ∷ from 1 0 both 1 1 (two 0 0) .refusal
@@ -324,9 +334,9 @@ refusals =
     ∷ from 1 fast both 1 1 (two 0 0) .refusal
     ∷ []
 
--- the reasons, and that the last is accepted
+-- the reasons, and that room 7 and the last are accepted; 5 comes before 20, and 20 before 6
 unfoldable pub reasons : List ℕ
-reasons = 2 ∷ 3 ∷ 4 ∷ 4 ∷ 5 ∷ 5 ∷ 6 ∷ 6 ∷ 7 ∷ 7 ∷ 8 ∷ 8 ∷ 8 ∷ 8 ∷ 9 ∷ 9 ∷ 10 ∷ 19 ∷ 0 ∷ []
+reasons = 2 ∷ 3 ∷ 4 ∷ 4 ∷ 5 ∷ 5 ∷ 20 ∷ 0 ∷ 5 ∷ 20 ∷ 6 ∷ 6 ∷ 7 ∷ 7 ∷ 8 ∷ 8 ∷ 8 ∷ 8 ∷ 9 ∷ 9 ∷ 10 ∷ 19 ∷ 0 ∷ []
 
 -- A proposal that claims to have used itself, request 8. Office 1's used number stands last in P.
 unfoldable pub selfUseComputed : List Day
@@ -345,12 +355,12 @@ selfUseComputed =
 unfoldable pub selfUseStated : List Day
 selfUseStated =
     -- E, whose used number is just below its number 2; with 2 it is 19, with 3 too
-    accepts 98 (aNotice 3 both ∷ aSlow 3 3 2 1 ∷ []) 3 ∷ refuses 19 3 ∷ refuses 19 3
+    accepts 100 (aNotice 3 both ∷ aSlow 3 3 2 1 ∷ []) 3 ∷ refuses 19 3 ∷ refuses 19 3
     -- number 1 has 0 below it; number L has L - 1
     ∷ accepts 0 [] 0 ∷ refuses 19 0
     ∷ accepts 0 [] 0 ∷ refuses 19 0
     -- the used number for this office may be above the proposal's number: it is the own one, as in G
-    ∷ accepts 84 (aSlow 2 3 1 0 ∷ []) 2
+    ∷ accepts 85 (aSlow 2 3 1 0 ∷ []) 2
     -- 10 and 9 come before 19
     ∷ refuses 10 0 ∷ refuses 9 0
     -- D, H and the ceiling: 19 comes before 11, 12 and 13

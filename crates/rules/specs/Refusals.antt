@@ -8,8 +8,8 @@ use Rattle.laws.specs.Checks.{Check, numbered, firstOf}
 use Rattle.laws.specs.Fin.{allb}
 use Rattle.laws.specs.Upd.{ifb}
 use Rattle.seats.specs.Offices.{serves}
-use Rattle.records.specs.Numbers.{limit, within, aboveLimit, strayNumber}
-use Rattle.records.specs.Layout.{reportMark, noticeLength, proposalLength, valueOf, checkOf, markOf}
+use Rattle.records.specs.Numbers.{limit, within, roomAbove, aboveLimit, strayNumber}
+use Rattle.records.specs.Layout.{reportMark, noticeLength, proposalLength, valueOf, checkOf, markOf, roomOf}
 use Rattle.records.specs.Layout.{decodeReport, decodeProposal, encodeProposal, encodeNotice, encodeView}
 use Rattle.rules.specs.MarkFile.{lastHigh, goodFile}
 use Rattle.records.specs.declared.Report.{Report}
@@ -49,15 +49,22 @@ restartOf o f =
     let n = firstOf (restartChecks o (goodFile f)) in
     record { refusal = n; state = ifb (eqb n 0) (restarted o (lastHigh f)) (fresh 0) }
 
--- the length of an output that every event has room in, 182: a start notice and two proposals
+-- the length of an output that every event has room in, 185: a start notice and two proposals
 abbrev pub fullRoom : ℕ
 fullRoom = noticeLength + 2 * proposalLength
 
--- 2 to 5, before the record is read
-unfoldable pub unreadable : State → List ℕ → ℕ → ℕ
-unreadable s b room =
-    firstOf (record { number = 2; applies = not (wellFormed s) } ∷ record { number = 3; applies = ltb room fullRoom }
-    ∷ numbered (checkOf b) ∷ [])
+-- 4 and 5, then 20, when the room is above 7
+abbrev pub readChecks : List ℕ → List Check
+readChecks b = numbered (checkOf b) ∷ record { number = 20; applies = roomAbove (roomOf b) } ∷ []
+
+unfoldable pub readCheck : List ℕ → ℕ
+readCheck b = firstOf (readChecks b)
+
+-- 2 to 5 and 20, before the record is read; `well` says that check 2 passes, `output` is the length of the lent output
+unfoldable pub unreadable : Bool → List ℕ → ℕ → ℕ
+unreadable well b output =
+    firstOf (record { number = 2; applies = not well } ∷ record { number = 3; applies = ltb output fullRoom }
+    ∷ numbered (readCheck b) ∷ [])
 
 -- a record that was read
 pub data Event : Type 0 where
@@ -136,24 +143,26 @@ accepting s o = ifb (wellFormed (o .state)) (accepted o) (refused 13 s)
 unfoldable pub actOf : State → Event → Result
 actOf s e = ifb (eqb (refusalOf s e) 0) (accepting s (ruleOf s e)) (refused (refusalOf s e) s)
 
--- an event handed to a state, with an output of length room: 2, 3, then 6 to 10, 19, 11 to 13
+-- an event handed to a state, with an output of this length: 2, 3, then 6 to 10, 19, 11 to 13
 unfoldable pub takeOf : State → Event → ℕ → Result
-takeOf s e room = ifb (wellFormed s) (ifb (ltb room fullRoom) (refused 3 s) (actOf s e)) (refused 2 s)
+takeOf s e output = ifb (wellFormed s) (ifb (ltb output fullRoom) (refused 3 s) (actOf s e)) (refused 2 s)
 
--- the step: the bytes of a record handed to a state, with an output of length room
+-- the step in one room: the bytes of a record handed to its state
 unfoldable pub stepOf : State → List ℕ → ℕ → Result
-stepOf s b room = ifb (eqb (unreadable s b room) 0) (actOf s (eventOf b)) (refused (unreadable s b room) s)
+stepOf s b output =
+    let n = unreadable (wellFormed s) b output in
+    ifb (eqb n 0) (actOf s (eventOf b)) (refused n s)
 
--- the bytes written
-abbrev pub bytesOf : Written → List ℕ
-bytesOf (notice n) = encodeNotice n
-bytesOf (proposal p) = encodeProposal p
-bytesOf (view v) = encodeView v
+-- the bytes written: each record names the room
+abbrev pub bytesOf : ℕ → Written → List ℕ
+bytesOf room (notice n) = encodeNotice room n
+bytesOf room (proposal p) = encodeProposal room p
+bytesOf room (view v) = encodeView room v
 
-unfoldable pub allBytes : List Written → List ℕ
-allBytes [] = []
-allBytes (w ∷ ws) = bytesOf w ++ allBytes ws
+unfoldable pub allBytes : ℕ → List Written → List ℕ
+allBytes room [] = []
+allBytes room (w ∷ ws) = bytesOf room w ++ allBytes room ws
 
--- how many bytes that is
+-- how many bytes that is, the same in every room
 abbrev pub size : List Written → ℕ
-size ws = length (allBytes ws)
+size ws = length (allBytes 0 ws)

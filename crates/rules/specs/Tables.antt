@@ -8,9 +8,11 @@ use Rattle.laws.specs.Checks.{firstOf}
 use Rattle.laws.specs.Fin.{allb}
 use Rattle.laws.specs.Upd.{ifb, upd}
 use Rattle.records.specs.Numbers.{roomCount, roomAbove}
+use Rattle.records.specs.Layout.{roomOf}
 use Rattle.rules.specs.State.{State}
 use Rattle.rules.specs.Rules.{Written, fresh, restarted}
-use Rattle.rules.specs.Refusals.{wellFormed, madeOf, restartOf, fullRoom, Event, Result, actOf}
+use Rattle.rules.specs.Refusals.{wellFormed, madeOf, restartOf, fullRoom, unreadable, Event, eventOf, Result}
+use Rattle.rules.specs.Refusals.{actOf}
 
 -- the state of each room
 abbrev pub Table : Type 0
@@ -74,3 +76,9 @@ unfoldable pub takeTable : Table → RoomEvent → ℕ → TableResult
 takeTable t e output =
     ifb (eqb (barred t e output) 0) (inTable t (e .room) (actOf (t (e .room)) (e .what)))
     (refusedTable (barred t e output) t)
+
+-- the step: the bytes of a record handed to a table, with an output of this length
+unfoldable pub stepTable : Table → List ℕ → ℕ → TableResult
+stepTable t b output =
+    let n = unreadable (wellTable t) b output in
+    ifb (eqb n 0) (inTable t (roomOf b) (actOf (t (roomOf b)) (eventOf b))) (refusedTable n t)

@@ -8,13 +8,13 @@ pub each-answer : computedAnswers ≡ statedAnswers
 unfolding computedAnswers statedAnswers answering
 each-answer =
     refl then refl then refl then refl then refl then refl then refl then refl then refl then refl then refl then refl
-    then refl then refl then refl then refl then refl
+    then refl then refl then refl then refl then refl then refl then refl
 
 pub each-refusal : computedRefusals ≡ statedRefusals
 unfolding computedRefusals statedRefusals answering
 each-refusal =
     refl then refl then refl then refl then refl then refl then refl then refl then refl then refl then refl then refl
-    then refl then refl then refl then refl then refl
+    then refl then refl then refl then refl then refl then refl then refl then refl then refl
     then refl then refl then refl then refl then refl then refl then refl then refl then refl
 
 pub full-sheets : computedFull ≡ statedFull

@@ -1,13 +1,14 @@
--- Answers: what is answered at each of the exits: the view unread; 8, 10 or 17; a bad record; an answer.
+-- Answers: what is answered at each of the exits: the view unread; 20; 8, 10 or 17; a bad record; an answer.
 use mathlib.Core.Path.{_≡_, ap}
 use mathlib.Core.List.{List, map}
-use Prim.Native.Nat.{ℕ, _+_}
+use Prim.Native.Nat.{ℕ, _+_, _≤_, _<_}
 use native.Mathlib.Omega.{arith}
 use native.Mathlib.Decide.{ℕ-discrete}
 use lib.ListN.{length}
-use borrow.Author.Tests.{ne-eqb}
+use borrow.Author.Tests.{le-leb, lt-leb, ne-eqb}
 use Rattle.laws.specs.Checks.{firstOf}
-use Rattle.records.specs.Layout.{viewMark, viewLength, checkOwn, decodeView, decodeSync}
+use Rattle.records.specs.Numbers.{roomCount}
+use Rattle.records.specs.Layout.{viewMark, viewLength, checkOwn, roomOf, decodeView, decodeSync}
 use Rattle.records.specs.declared.Sync.{Sync}
 use Rattle.sheet.specs.declared.Along.the-variants as answers
 use Rattle.sheet.specs.Sheet.{recordsOn, answerFrom, askChecks, firstBad, alongChecks, cameAlong, alongValue}
@@ -31,19 +32,23 @@ module _ (sheet view : List ℕ) (previous : ℕ) where
   unfolding cameAlong alongChecks
   along-unread n = rw (ne-eqb unread 0 n, ne-eqb unread 0 n)
 
-  module _ (read : unread ≡ 0) where
+  pub along-20 : unread ≡ 0 → roomCount ≤ roomOf view → cameAlong sheet view previous ≡ answers.Refused 20
+  unfolding cameAlong alongChecks
+  along-20 read above = rw (read, le-leb roomCount (roomOf view) above)
+
+  module _ (read : unread ≡ 0) (in-room : roomOf view < roomCount) where
     pub along-asked : (asked ≡ 0 → ⊥) → cameAlong sheet view previous ≡ answers.Refused asked
     unfolding cameAlong alongChecks
-    along-asked n = rw (read, ne-eqb asked 0 n, ne-eqb asked 0 n)
+    along-asked n = rw (read, lt-leb roomCount (roomOf view) in-room, ne-eqb asked 0 n, ne-eqb asked 0 n)
 
     module _ (passed : asked ≡ 0) where
       pub along-bad : (bad ≡ 0 → ⊥) → cameAlong sheet view previous ≡ answers.Refused bad
       unfolding cameAlong alongChecks
-      along-bad n = rw (read, passed, ne-eqb bad 0 n, ne-eqb bad 0 n)
+      along-bad n = rw (read, lt-leb roomCount (roomOf view) in-room, passed, ne-eqb bad 0 n, ne-eqb bad 0 n)
 
       pub along-good : bad ≡ 0 → cameAlong sheet view previous ≡ answerFrom (decodeView view) previous records
       unfolding cameAlong alongChecks
-      along-good z = rw (read, passed, z)
+      along-good z = rw (read, lt-leb roomCount (roomOf view) in-room, passed, z)
 
       -- and what that tells
       pub along-tells : bad ≡ 0 → Tells (decodeView view) records previous (cameAlong sheet view previous)

@@ -1,5 +1,5 @@
--- Sheets of three desks: seats 0 and 1 at office 0 and seat 4 at office 1; what the definition gives, and what is to
--- be said.
+-- Sheets of three desks in room 5: seats 0 and 1 at office 0 and seat 4 at office 1; what the definition gives, and
+-- what is to be said.
 use mathlib.Core.List.{List, [], _∷_, _++_, flatten}
 use Prim.Native.Nat.{ℕ, _+_}
 use lib.ListN.{take, replicate}
@@ -13,7 +13,7 @@ use Rattle.seats.specs.Seats.{has, containsOf}
 use Rattle.seats.specs.Offices.{officeOf, serves, packed}
 use Rattle.records.specs.Numbers.{limit}
 use Rattle.records.specs.Layout.{encodeNotice, encodeView, encodeSync, decodeView, decodeSync, markOf, checkFor}
-use Rattle.records.specs.Layout.{checkOwn}
+use Rattle.records.specs.Layout.{checkOwn, roomOf}
 use Rattle.sheet.specs.declared.Along.{Along}
 use Rattle.sheet.specs.declared.Along.the-variants as answers
 use Rattle.sheet.specs.Sheet.{counts, recordFor, lacksRecord, namesSame, answerFrom, askedAbove}
@@ -22,15 +22,19 @@ use Rattle.sheet.specs.Sheet.{noSheet, askChecks, syncChecks, firstBad, 
 -- the answer; to unfold it is to unfold the definitions
 unfoldable pub answering : List ℕ → List ℕ → ℕ → Along
 unfolding bytesAll bit anyb lowestBelow tab has containsOf officeOf serves packed encodeNotice encodeView encodeSync
-    decodeView decodeSync markOf checkFor
+    roomOf decodeView decodeSync markOf checkFor
     checkOwn pieces counts recordFor lacksRecord namesSame answerFrom askedAbove noSheet askChecks syncChecks
     firstBad alongChecks cameAlong
 answering sheet view previous = cameAlong sheet view previous
 
--- a view by its number, its members, and the start numbers of offices 0, 1 and 2
+-- a view by its room, its number, its members, and the start numbers of offices 0, 1 and 2
+abbrev viewedIn : ℕ → ℕ → ℕ → ℕ → ℕ → ℕ → List ℕ
+viewedIn room number members a b c =
+    encodeView room
+    (record { number = number; members = record { bits = members }; starts = a ∷ b ∷ c ∷ tab 13 (λ o. 0) })
+
 abbrev viewed : ℕ → ℕ → ℕ → ℕ → ℕ → List ℕ
-viewed number members a b c =
-    encodeView (record { number = number; members = record { bits = members }; starts = a ∷ b ∷ c ∷ tab 13 (λ o. 0) })
+viewed = viewedIn 5
 
 -- the members {0, 1, 4}, with start numbers 3 and 7; the empty view
 abbrev shown : List ℕ
@@ -65,6 +69,8 @@ computedAnswers =
     ∷ answering (synced 0 2 2 ++ sync1 ++ sync4) shown 2 ∷ answering (synced 0 2 1 ++ sync0 ++ sync1 ++ sync4) shown 2
     ∷ answering [] shown 2 ∷ answering [] empty 2 ∷ answering (sync0 ++ synced 9 0 2) empty 2
     ∷ answering (synced 63 0 limit) (viewed limit 0 0 0 0) limit
+    ∷ answering (sync0 ++ sync1 ++ sync4) (viewedIn 0 8 0b10011 3 7 0) 2
+    ∷ answering (sync0 ++ sync1 ++ sync4) (viewedIn 7 8 0b10011 3 7 0) 2
     ∷ []
 
 abbrev members : ℕ → Along
@@ -86,14 +92,18 @@ statedAnswers =
     ∷ answers.Missing 0 ∷ members 0 ∷ members 0
     -- L is not above L
     ∷ members 0
+    -- the first room, and the last
+    ∷ members 0b10011 ∷ members 0b10011
     ∷ []
 
 unfoldable pub computedRefusals : List Along
 computedRefusals =
     answering [] [] 2 ∷ answering [] (0x4e ∷ 0x45 ∷ []) 2
-    ∷ answering [] (encodeNotice (record { start = 3; members = record { bits = 0b10011 } })) 2
+    ∷ answering [] (encodeNotice 5 (record { start = 3; members = record { bits = 0b10011 } })) 2
     ∷ answering [] [] (limit + 1)
-    ∷ answering [] (take 77 shown) 2 ∷ answering [] (shown ++ (0 ∷ [])) 2 ∷ answering [] (0x56 ∷ 0x57 ∷ []) (limit + 1)
+    ∷ answering [] (take 78 shown) 2 ∷ answering [] (shown ++ (0 ∷ [])) 2 ∷ answering [] (0x56 ∷ 0x57 ∷ []) (limit + 1)
+    ∷ answering [] (viewedIn 8 8 0b10011 3 7 0) 2 ∷ answering [] (viewedIn 255 8 0b10011 3 7 0) 2
+    ∷ answering [] (take 78 (viewedIn 8 8 0b10011 3 7 0)) 2 ∷ answering [] (viewedIn 8 8 0b10011 3 7 0) (limit + 1)
     ∷ answering [] (viewed (limit + 1) 0b10011 3 7 0) 2 ∷ answering [] (viewed 8 0b10011 3 (limit + 1) 0) 2
     ∷ answering [] shown (limit + 1)
     ∷ answering [] (viewed 8 0b10011 3 7 1) (limit + 1)
@@ -114,6 +124,9 @@ statedRefusals =
     ∷ answers.Refused 4
     -- a byte less, a byte more; before 8 by one's own number
     ∷ answers.Refused 5 ∷ answers.Refused 5 ∷ answers.Refused 5
+    -- a room above 7; behind 5, before 8
+    ∷ answers.Refused 20 ∷ answers.Refused 20
+    ∷ answers.Refused 5 ∷ answers.Refused 20
     -- above L: the view's number, one of its start numbers, one's own; before 10
     ∷ answers.Refused 8 ∷ answers.Refused 8 ∷ answers.Refused 8
     ∷ answers.Refused 8

@@ -1,5 +1,5 @@
 -- Who came along from the old view: what a sheet of sync records, a view and one's own previous view number answer, in
--- the order of change request 4.
+-- the order of change requests 4 and 9.
 use mathlib.Core.Bool.{Bool, true, false, _&&_, _||_, not}
 use mathlib.Core.List.{List, [], _∷_, map}
 use mathlib.Core.Option.{Option, none, some}
@@ -13,9 +13,9 @@ use Rattle.laws.specs.Upd.{ifb}
 use Rattle.seats.specs.Seats.{seatCount, containsOf}
 use Rattle.seats.specs.declared.SeatSet.{SeatSet}
 use Rattle.seats.specs.Offices.{packed}
-use Rattle.records.specs.Numbers.{limit}
+use Rattle.records.specs.Numbers.{limit, roomAbove}
 use Rattle.records.specs.Layout.{viewMark, viewLength, syncMark, syncLength, valueOf, markOf, checkOwn, decodeView}
-use Rattle.records.specs.Layout.{decodeSync}
+use Rattle.records.specs.Layout.{roomOf, decodeSync}
 use Rattle.records.specs.declared.View.{View}
 use Rattle.records.specs.declared.Sync.{Sync}
 use Rattle.desk.specs.Views.{viewAbove, viewStray, startFor}
@@ -105,10 +105,10 @@ unfoldable pub firstBad : List (List ℕ) → ℕ
 firstBad [] = 0
 firstBad (b ∷ bs) = let n = firstOf (syncChecks b) in ifb (eqb n 0) (firstBad bs) n
 
--- the view is read first: 4 and 5 by its own mark and length, then 8 and 10; then 17; then the first bad record
+-- the view is read first: 4 and 5 by its own mark and length, then 20, 8 and 10; then 17; then the first bad record
 unfoldable pub alongChecks : List ℕ → List ℕ → ℕ → List Check
 alongChecks sheet view previous =
-    numbered (checkOwn viewMark viewLength view)
+    numbered (checkOwn viewMark viewLength view) ∷ record { number = 20; applies = roomAbove (roomOf view) }
     ∷ numbered (firstOf (askChecks (decodeView view) previous (length sheet)))
     ∷ numbered (firstBad (recordsOn sheet)) ∷ []
 

@@ -1,122 +1,161 @@
--- The step's result at each of its exits behind checks 2 and 3.
+-- The result of an event in the row of its room, and of a record in the table, at each exit behind checks 2 and 3.
 use mathlib.Core.Path.{_≡_, refl, sym, ap, _∙_}
-use mathlib.Core.Bool.{true}
+use mathlib.Core.Bool.{Bool, true, false}
+use mathlib.Core.Logic.{_⊎_, inl, inr}
 use mathlib.Core.List.{List, []}
-use Prim.Native.Nat.{ℕ, _<_}
+use Prim.Native.Nat.{ℕ, _≤_, _<_}
 use native.Mathlib.Omega.{arith}
-use lib.ListN.{getD}
-use borrow.Author.Tests.{ne-eqb}
+use lib.ListN.{length, getD}
+use lib.Dec.{eqb}
+use borrow.Author.Tests.{ne-eqb, le-ltb}
+use Rattle.laws.specs.Upd.{ifb, upd}
+use Rattle.laws.proofs.Upd.{upd-same}
 use Rattle.records.specs.declared.Report.{Report}
 use Rattle.records.specs.declared.Proposal.{Proposal}
 use Rattle.records.specs.declared.Form.{Form}
-use Rattle.records.specs.declared.RecordKind.{RecordKind}
-use Rattle.records.specs.declared.RecordKind.the-variants as kinds
+use Rattle.records.specs.Numbers.{roomCount, roomAbove}
 use Rattle.records.specs.Layout.{reportMark, reportLength, proposalMark, proposalLength, decodeReport, decodeProposal}
-use Rattle.records.specs.Layout.{formOf, checkFor, checkOf, sized}
-use Rattle.records.proofs.CheckLaws.{own-length, by-report, by-proposal, by-other, sized-all}
-use Rattle.rules.specs.Refusals.{Event, aReport, aProposal, eventOf, ruleOf, refused, stepOf}
-use Rattle.rule_laws.proofs.Steps.{Accepts, AcceptsEvent, zero-accepts, step-accepts, refused-keeps}
+use Rattle.records.specs.Layout.{roomOf, formOf, checkFor, checkOf, checkOwn, sized}
+use Rattle.records.proofs.CheckLaws.{own-length, sized-all}
+use Rattle.rules.specs.State.{State}
+use Rattle.rules.specs.Refusals.{fullRoom, readCheck, unreadable, Event, aReport, aProposal, eventOf, ruleOf, refused}
+use Rattle.rules.specs.Refusals.{Result, actOf}
+use Rattle.rules.specs.Tables.{Table, wellTable, TableResult, refusedTable, inTable, stepTable}
+use Rattle.rule_laws.proofs.Steps.{Refused, AcceptsEvent, act-cases, act-accepts, read-facts}
 use Rattle.rule_laws.proofs.Exits.{report-read, proposal-read, no-bytes}
-use Rattle.row.specs.Row.{stateOf, isRow, word}
-use Rattle.row.proofs.Low.{is-row, sound-row, sound-well}
+use Rattle.row.specs.Row.{rowLength, stateOf, wordsOf, soundRow, word}
+use Rattle.row.specs.Table.{tableLength, rowAt, withRow, tableOf, isTable, SoundTable}
 use Rattle.row.proofs.Words.{row-words}
+use Rattle.row.proofs.Tables.{sound-length, sound-rows, sound-is, sound-table, row-self}
 use Rattle.event_parts.specs.Did.{Did}
-use Rattle.step.specs.Tried.{refusalFrom, Seen, SeenReport, SeenProposal}
-use Rattle.step.proofs.Refusal.{from-unread, step-refusal}
 use Rattle.step.specs.declared.answers.Answer.{Answer}
-use Rattle.step.specs.Step.{RowResult, inRow, stepRow, Stepped, Ready}
-
--- what was read of bytes: their number by checks 4 and 5, and the event where that is 0
-pub record ReadAs (b : List ℕ) (n : ℕ) (e : Event) : Type 0 where
-  pub number : checkOf b ≡ n
-  pub event : n ≡ 0 → eventOf b ≡ e
-
-module _ (b : List ℕ) (n : ℕ) where
-  -- one look at the mark says both
-  pub seen : {kind : RecordKind} (f : Form) → f ≡ formOf b → f .kind ≡ kind → n ≡ checkFor (f .length) b
-      → Seen kind b n
-  unfolding checkOf
-  seen f e k d = record {
-    is = ap (λ (x : Form). x .kind) (sym e) ∙ k;
-    number = d ∙ ap (λ (x : Form). checkFor (x .length) b) e;
-  }
-
-  pub report-told : (r : Report) → SeenReport b n → r ≡ decodeReport (sized reportLength b) → ReadAs b n (aReport r)
-  report-told r seen e = record {
-    number = sym (seen .number);
-    event = λ z. let c = sym (by-report b (seen .is)) ∙ sym (seen .number) ∙ z in report-read b c
-        ∙ ap aReport (sym (e ∙ ap decodeReport (sized-all reportLength b (own-length reportMark reportLength b c))));
-  }
-
-  pub proposal-told : (p : Proposal) → SeenProposal b n → p ≡ decodeProposal (sized proposalLength b)
-      → ReadAs b n (aProposal p)
-  proposal-told p seen e = record {
-    number = sym (seen .number);
-    event = λ z. let c = sym (by-proposal b (seen .is)) ∙ sym (seen .number) ∙ z in proposal-read b c ∙ ap aProposal
-        (sym (e ∙ ap decodeProposal (sized-all proposalLength b (own-length proposalMark proposalLength b c))));
-  }
+use Rattle.step.specs.Step.{WordsResult, inRow, actRow, inWords, stepWords, Stepped, Ready, ReadyTable}
 
 -- the words as they were, nothing written
-abbrev pub kept : ℕ → List ℕ → RowResult
+abbrev pub kept : ℕ → List ℕ → WordsResult
 kept n ws = record { refusal = n; written = []; words = ws }
 
-pub refuse-meets : (q : RowResult) (n : ℕ) (ws o : List ℕ) (a : Answer) → q ≡ kept n ws
+pub refuse-meets : (room : ℕ) (q : WordsResult) (n : ℕ) (ws o : List ℕ) (a : Answer) → q ≡ kept n ws
     → a ≡ record { refusal = n; written = 0 }
-    → Stepped q o (a .refusal) (a .written) ws o
-refuse-meets q n ws o a d e =
-    rw (d, e) (record { same-refusal = refl; same-written = rw no-bytes; same-words = refl; same-out = rw no-bytes })
+    → Stepped room q o (a .refusal) (a .written) ws o
+refuse-meets room q n ws o a d e =
+    rw (d, e) (record {
+      same-refusal = refl;
+      same-written = rw (no-bytes 0);
+      same-words = refl;
+      same-out = rw (no-bytes room);
+    })
 
-module _ (ws b : List ℕ) (room : ℕ) where
-  pub on-row : isRow ws ≡ true → stepRow ws b room ≡ inRow ws (stepOf (stateOf ws) b room)
-  unfolding stepRow
-  on-row r = rw r
+-- an event in a row, and the refusal that was found for it
+module _ (ws : List ℕ) (e : Event) (m : ℕ) (found : m ≡ actOf (stateOf ws) e .refusal) where
+  pub exit-refused : (m ≡ 0 → ⊥) → actRow ws e ≡ kept m ws
+  unfolding actRow
+  exit-refused h = go (act-cases (stateOf ws) e)
+    where
+      go : Refused (stateOf ws) (actOf (stateOf ws) e) ⊎ AcceptsEvent (stateOf ws) e
+          → inRow ws (actOf (stateOf ws) e) ≡ kept m ws
+      go (inl r) = rw (r .is, ← found, ne-eqb m 0 h)
+      go (inr a) = absurd (h (found ∙ ap (λ (q : Result). q .refusal) (act-accepts (stateOf ws) e a)))
 
-  pub row-refused : isRow ws ≡ true → (n : ℕ) → (n ≡ 0 → ⊥) → stepOf (stateOf ws) b room ≡ refused n (stateOf ws)
-      → stepRow ws b room ≡ kept n ws
-  row-refused r n h e = on-row r ∙ rw (e, ne-eqb n 0 h)
+  module _ (z : m ≡ 0) where
+    pub accepts-event : AcceptsEvent (stateOf ws) e
+    accepts-event = go (act-cases (stateOf ws) e)
+      where
+        go : Refused (stateOf ws) (actOf (stateOf ws) e) ⊎ AcceptsEvent (stateOf ws) e → AcceptsEvent (stateOf ws) e
+        go (inl r) = absurd (r .reason (sym found ∙ z))
+        go (inr a) = a
 
-  -- what was read, and the refusal that was found for it: the step's
-  module _ (ready : Ready ws room) {n : ℕ} {e : Event} (told : ReadAs b n e) (m : ℕ)
-      (found : m ≡ refusalFrom n (stateOf ws) e) where
-    row : isRow ws ≡ true
-    row = is-row ws (sound-row ws (ready .sound))
+    -- accepted: the words are those of the state left
+    pub accept-meets : (room : ℕ) (a : Answer) (k : ℕ) (o ws′ o′ : List ℕ) → Did room (λ s. ruleOf s e) ws o 0 ws′ o′ k
+        → ((k : ℕ) → getD ws′ k 0 < word) → a ≡ record { refusal = 0; written = k }
+        → Stepped room (actRow ws e) o (a .refusal) (a .written) ws′ o′
+    unfolding actRow
+    accept-meets room a k o ws′ o′ d below f =
+        rw (f, act-accepts (stateOf ws) e accepts-event) (record {
+          same-refusal = refl;
+          same-written = let p = d .written .place in omega arith;
+          same-words = row-words ws′ (ruleOf (stateOf ws) e .state) (d .row) below (d .is);
+          same-out = d .written .output;
+        })
 
-    same : m ≡ stepOf (stateOf ws) b room .refusal
-    same = found ∙ sym (rw (← told .number)
-        (step-refusal (stateOf ws) e b room (sound-well ws (ready .sound)) (ready .fits)
-        (λ z. told .event (sym (told .number) ∙ z))))
+-- the event that bytes hold, by their kind
+pub report-told : (b : List ℕ) (r : Report) → checkOwn reportMark reportLength b ≡ 0
+    → r ≡ decodeReport (sized reportLength b) → eventOf b ≡ aReport r
+report-told b r c e =
+    report-read b c
+    ∙ ap aReport (sym (e ∙ ap decodeReport (sized-all reportLength b (own-length reportMark reportLength b c))))
 
-    pub exit-refused : (m ≡ 0 → ⊥) → stepRow ws b room ≡ kept m ws
-    exit-refused h =
-        row-refused row m h (refused-keeps (stateOf ws) b room (λ z. h (same ∙ z))
-        ∙ ap (λ (k : ℕ). refused k (stateOf ws)) (sym same))
+pub proposal-told : (b : List ℕ) (p : Proposal) → checkOwn proposalMark proposalLength b ≡ 0
+    → p ≡ decodeProposal (sized proposalLength b) → eventOf b ≡ aProposal p
+proposal-told b p c e =
+    proposal-read b c ∙ ap aProposal
+    (sym (e ∙ ap decodeProposal (sized-all proposalLength b (own-length proposalMark proposalLength b c))))
 
-    module _ (z : m ≡ 0) where
-      accepts : Accepts (stateOf ws) b room
-      accepts = zero-accepts (stateOf ws) b room (sym same ∙ z)
+-- 4 and 5 as they were found, by one look at the mark
+pub check-found : (b : List ℕ) (f : Form) (n : ℕ) → f ≡ formOf b → n ≡ checkFor (f .length) b → n ≡ checkOf b
+unfolding checkOf
+check-found b f n e d = d ∙ ap (λ (x : Form). checkFor (x .length) b) e
 
-      event : eventOf b ≡ e
-      event = told .event (sym (told .number) ∙ accepts .readable)
+-- a record in the table, behind checks 2 and 3
+module _ (ws b : List ℕ) (output : ℕ) (ready : ReadyTable ws output) where
+  on-table : stepWords ws b output ≡ inWords ws (roomOf b) (stepTable (tableOf ws) b output)
+  unfolding stepWords
+  on-table = rw (sound-is ws (ready .sound))
 
-      pub accepts-event : AcceptsEvent (stateOf ws) e
-      accepts-event = rw (← event) (accepts .acts)
+  exit-read : (n : ℕ) → n ≡ readCheck b → (n ≡ 0 → ⊥) → stepWords ws b output ≡ kept n ws
+  unfolding stepTable unreadable
+  exit-read n e h =
+      let w = sound-table ws (ready .sound) in
+      let c : (readCheck b ≡ 0) → ⊥ = λ z. h (e ∙ z) in
+      let q : eqb (readCheck b) 0 ≡ false = ne-eqb (readCheck b) 0 c in
+      on-table ∙ rw (w, le-ltb output fullRoom (ready .fits), q, q, q, e)
 
-      -- accepted: the words are those of the state left
-      pub accept-meets : (a : Answer) (k : ℕ) (o ws′ o′ : List ℕ) → Did (λ s. ruleOf s e) ws o 0 ws′ o′ k
-          → ((k : ℕ) → getD ws′ k 0 < word) → a ≡ record { refusal = 0; written = k }
-          → Stepped (stepRow ws b room) o (a .refusal) (a .written) ws′ o′
-      accept-meets a k o ws′ o′ d below f =
-          rw (f, on-row row, step-accepts (stateOf ws) b room accepts, event) (record {
-            same-refusal = refl;
-            same-written = let p = d .written .place in omega arith;
-            same-words = row-words ws′ (ruleOf (stateOf ws) e .state) (d .row) below (d .is);
-            same-out = d .written .output;
-          })
+  -- 4 and 5
+  pub exit-unread : (n : ℕ) → n ≡ checkOf b → (n ≡ 0 → ⊥) → stepWords ws b output ≡ kept n ws
+  unfolding readCheck
+  exit-unread n e h = exit-read n (e ∙ rw (ne-eqb (checkOf b) 0 (λ z. h (e ∙ z)))) h
 
-  -- a mark that is neither a report's nor a proposal's
-  pub exit-other : Ready ws room → (n : ℕ) → Seen kinds.Other b n → stepRow ws b room ≡ kept n ws
-  exit-other ready n s =
-      let e = s .number in
-      let four = by-other b (s .is) in
-      let h : n ≡ 0 → ⊥ = λ z. omega arith in
-      exit-refused ready (record { number = sym e; event = λ z. refl }) n (from-unread (stateOf ws) (eventOf b) n h) h
+  -- 20
+  pub exit-roomless : checkOf b ≡ 0 → roomAbove (roomOf b) ≡ true → stepWords ws b output ≡ kept 20 ws
+  unfolding readCheck
+  exit-roomless c a = exit-read 20 (rw (c, a)) (λ z. omega arith)
+
+  -- what an event does in the row of its room
+  module _ (c : checkOf b ≡ 0) (in-room : roomOf b < roomCount) where
+    abbrev room : ℕ
+    room = roomOf b
+
+    passes : readCheck b ≡ 0
+    passes = read-facts b .1 (c, in-room)
+
+    pub row-ready : Ready (rowAt ws room) output
+    row-ready = record { sound = sound-rows ws (ready .sound) room in-room; fits = ready .fits }
+
+    abbrev q : Result
+    q = actOf (tableOf ws room) (eventOf b)
+
+    acted : stepTable (tableOf ws) b output ≡ inTable (tableOf ws) room q
+    unfolding stepTable unreadable
+    acted = rw (sound-table ws (ready .sound), le-ltb output fullRoom (ready .fits), passes)
+
+    -- the words of the table are those with that row anew
+    same-table : withRow ws room (ifb (eqb (q .refusal) 0) (wordsOf (q .state)) (rowAt ws room))
+        ≡ ifb (eqb (q .refusal) 0) (withRow ws room (wordsOf (inTable (tableOf ws) room q .table room))) ws
+    same-table = go (eqb (q .refusal) 0) refl
+      where
+        go : (t : Bool) → eqb (q .refusal) 0 ≡ t
+            → withRow ws room (ifb (eqb (q .refusal) 0) (wordsOf (q .state)) (rowAt ws room))
+            ≡ ifb (eqb (q .refusal) 0) (withRow ws room (wordsOf (inTable (tableOf ws) room q .table room))) ws
+        go true e = rw e (ap (λ (s : State). withRow ws room (wordsOf s)) (sym (upd-same (tableOf ws) room (q .state))))
+        go false e = rw e (row-self ws room (sound-length ws (ready .sound)) in-room)
+
+    pub room-meets : (o row′ o′ : List ℕ) (n k : ℕ) → Stepped room (actRow (rowAt ws room) (eventOf b)) o n k row′ o′
+        → Stepped room (stepWords ws b output) o n k (withRow ws room row′) o′
+    unfolding actRow
+    room-meets o row′ o′ n k s =
+        rw (on-table, acted) (record {
+          same-refusal = s .same-refusal;
+          same-written = s .same-written;
+          same-words = ap (withRow ws room) (s .same-words) ∙ same-table;
+          same-out = s .same-out;
+        })

@@ -1,59 +1,140 @@
--- For the crates above: what a row holds after the step, and what the output holds.
-use mathlib.Core.Path.{_≡_, refl, _∙_}
+-- For the crates above: what a table holds after the step, and what the output holds.
+use mathlib.Core.Path.{_≡_, refl, sym, ap, _∙_}
 use mathlib.Core.Bool.{true, false}
-use mathlib.Core.List.{List, []}
 use mathlib.Core.Logic.{_⊎_, inl, inr}
-use Prim.Native.Nat.{ℕ, _≤_, _<_}
+use mathlib.Core.List.{List, []}
+use Prim.Native.Nat.{ℕ, _+_, _≤_, _<_}
 use native.Mathlib.Omega.{arith}
 use lib.Dec.{eqb}
-use lib.ListN.{length, take, drop, getD}
 use borrow.Author.Tests.{ne-eqb}
+use lib.ListN.{length, take, drop, getD, length-take, List·getD-eq-default}
+use native.Mathlib.Decide.{decLt}
 use Rattle.laws.proofs.Big.{sets-front, sets-rest}
 use Rattle.laws.proofs.Fin.{if-cases}
-use Rattle.laws.specs.Upd.{ifb}
-use Rattle.records.specs.Layout.{checkOf}
+use Rattle.laws.specs.Upd.{ifb, upd}
+use Rattle.laws.proofs.Upd.{upd-same}
+use Rattle.records.specs.Numbers.{roomCount}
+use Rattle.records.specs.Layout.{roomOf}
 use Rattle.records.specs.declared.Report.{Report}
+use Rattle.rules.specs.State.{State}
 use Rattle.rules.specs.Rules.{repeats}
-use Rattle.rules.specs.Refusals.{wellFormed, aReport, eventOf, fullRoom, stepOf, allBytes, size}
-use Rattle.rule_laws.proofs.Steps.{Refused, Accepts, step-cases, step-accepts}
+use Rattle.rules.specs.Refusals.{aReport, eventOf, ruleOf, fullRoom, readCheck, Result, stepOf, allBytes, size}
+use Rattle.rules.specs.Tables.{stepTable}
+use Rattle.rule_laws.proofs.Steps.{Refused, Accepts, read-facts, step-cases, step-accepts}
+use Rattle.rule_laws.proofs.Shapes.{Shaped, event-shaped, read-sixteen}
 use Rattle.rule_laws.proofs.Repeats.{repeat-step}
-use Rattle.rule_laws.proofs.Sizes.{step-size}
-use Rattle.rule_laws.proofs.Exits.{no-bytes, room-enough}
-use Rattle.rule_laws.proofs.Shapes.{event-shaped, read-sixteen}
-use Rattle.row.specs.Row.{Row, stateOf, wordsOf, isRow, word}
-use Rattle.row.proofs.Low.{is-row}
-use Rattle.step.specs.Step.{RowResult, stepRow, Stepped}
-use Rattle.step.proofs.Exits.{on-row}
-use Rattle.row.proofs.Words.{state-shaped, words-state}
-use Rattle.row.proofs.Holds.{Holds, shaped-holds}
+use Rattle.rule_laws.proofs.Sizes.{size-bytes, event-size}
+use Rattle.rule_laws.proofs.Tables.{room-well}
+use Rattle.rule_laws.proofs.TableSteps.{step-in-room, table-by, table-size}
+use Rattle.rule_laws.proofs.Exits.{no-bytes}
+use Rattle.row.specs.Row.{rowLength, stateOf, wordsOf, word}
+use Rattle.row.specs.Table.{rowPlace, rowAt, withRow, tableOf, isTable, SoundTable}
+use Rattle.row.proofs.Low.{sound-row}
+use Rattle.row.proofs.Words.{words-state, words-row, state-shaped}
+use Rattle.row.proofs.Tables.{sound-is, sound-length, sound-rows, sound-table, row-self, row-beside}
+use Rattle.row.proofs.Tables.{row-written}
+use Rattle.laws.proofs.Cuts.{getD-part}
+use Rattle.step.specs.Step.{WordsResult, inRow, inWords, stepWords, Stepped}
 
--- the step leaves a row that holds the state of its result
-pub step-holds : (ws b : List ℕ) (room : ℕ) → Row ws
-    → Holds (stepRow ws b room .words) (stepOf (stateOf ws) b room .state)
-unfolding stepRow
-step-holds ws b room r = rw (is-row ws r) (go (step-cases (stateOf ws) b room))
-  where
-    go : Refused (stateOf ws) (stepOf (stateOf ws) b room) ⊎ Accepts (stateOf ws) b room
-        → Holds (ifb (eqb (stepOf (stateOf ws) b room .refusal) 0) (wordsOf (stepOf (stateOf ws) b room .state)) ws)
-        (stepOf (stateOf ws) b room .state)
-    go (inl f) = rw (ne-eqb (stepOf (stateOf ws) b room .refusal) 0 (f .reason), f .is) (r, refl)
-    go (inr a) = rw (step-accepts (stateOf ws) b room a)
-        (shaped-holds _ (event-shaped (stateOf ws) (eventOf b) (read-sixteen b) (state-shaped ws)))
+-- words that are no table stay
+pub no-table-stays : (ws b : List ℕ) (output : ℕ) → isTable ws ≡ false
+    → stepWords ws b output ≡ record { refusal = 2; written = []; words = ws }
+unfolding stepWords
+no-table-stays ws b output e = rw e
 
--- words that are no row stay
-pub no-row-stays : (ws b : List ℕ) (room : ℕ) → isRow ws ≡ false
-    → stepRow ws b room ≡ record { refusal = 2; written = []; words = ws }
-unfolding stepRow
-no-row-stays ws b room e = rw e
+-- the words that the step leaves: the row of the record's room anew, or all as they were
+module _ (ws b : List ℕ) (output : ℕ) (sound : SoundTable ws) where
+  abbrev room : ℕ
+  room = roomOf b
+
+  abbrev q : WordsResult
+  q = stepWords ws b output
+
+  on-table : q ≡ inWords ws room (stepTable (tableOf ws) b output)
+  unfolding stepWords
+  on-table = rw (sound-is ws sound)
+
+  -- the other rooms stay word for word
+  pub rows-stay : (other : ℕ) → (other ≡ room → ⊥) → rowAt (q .words) other ≡ rowAt ws other
+  rows-stay other n = rw on-table
+      (table-by (tableOf ws) b output (λ x. rowAt (inWords ws room x .words) other ≡ rowAt ws other)
+      (λ m d. rw (ne-eqb m 0 d))
+      (λ a. let s = ruleOf (tableOf ws room) (eventOf b) .state in
+      rw (upd-same (tableOf ws) room s)
+      (row-beside ws (wordsOf s) room (sound-length ws sound) (a .accepts .in-room) (words-row s (shaped s refl) .long)
+      other n)))
+    where
+      shaped : (s : State) → s ≡ ruleOf (tableOf ws room) (eventOf b) .state → Shaped s
+      shaped s e = rw e (event-shaped (tableOf ws room) (eventOf b) (read-sixteen b) (state-shaped (rowAt ws room)))
+
+  -- and its own room is what the step in one room leaves
+  pub row-step : room < roomCount → (q .refusal ≡ stepOf (tableOf ws room) b output .refusal)
+      × (q .written ≡ stepOf (tableOf ws room) b output .written)
+      × (rowAt (q .words) room ≡ inRow (rowAt ws room) (stepOf (tableOf ws room) b output) .words)
+  row-step l = rw (on-table, step-in-room (tableOf ws) b output (sound-table ws sound) l)
+      (refl, refl, go (step-cases (tableOf ws room) b output))
+    where
+      x : Result
+      x = stepOf (tableOf ws room) b output
+
+      Row : Result → Type 0
+      Row x = rowAt (ifb (eqb (x .refusal) 0) (withRow ws room (wordsOf (upd (tableOf ws) room (x .state) room))) ws) room
+          ≡ ifb (eqb (x .refusal) 0) (wordsOf (x .state)) (rowAt ws room)
+
+      go : Refused (tableOf ws room) x ⊎ Accepts (tableOf ws room) b output → Row x
+      go (inl r) = rw (ne-eqb (x .refusal) 0 (r .reason))
+      go (inr a) =
+          let s = ruleOf (tableOf ws room) (eventOf b) .state in
+          let shaped = event-shaped (tableOf ws room) (eventOf b) (read-sixteen b) (state-shaped (rowAt ws room)) in
+          rw (step-accepts (tableOf ws room) b output a, upd-same (tableOf ws) room s)
+          (row-written ws (wordsOf s) room (sound-length ws sound) l (words-row s shaped .long))
+
+-- two tables of words that pass check 2 and have one row in common answer that room's records alike, whatever stands
+-- in the other rows, and leave that row alike
+pub alike : (ws vs b : List ℕ) (output : ℕ) → SoundTable ws → SoundTable vs → roomOf b < roomCount
+    → rowAt ws (roomOf b) ≡ rowAt vs (roomOf b)
+    → (stepWords ws b output .refusal ≡ stepWords vs b output .refusal)
+    × (stepWords ws b output .written ≡ stepWords vs b output .written)
+    × (rowAt (stepWords ws b output .words) (roomOf b) ≡ rowAt (stepWords vs b output .words) (roomOf b))
+alike ws vs b output s t l e =
+    let a = row-step ws b output s l in
+    let c = row-step vs b output t l in
+    let same = ap (λ (r : List ℕ). stepOf (stateOf r) b output) e in (
+      a .0 ∙ ap (λ (x : Result). x .refusal) same ∙ sym (c .0),
+      a .1 ∙ ap (λ (x : Result). x .written) same ∙ sym (c .1),
+      a .2 ∙ ap (λ (r : List ℕ). inRow r (stepOf (stateOf r) b output) .words) e ∙ sym (c .2),
+    )
 
 -- a repeat leaves every word and writes nothing
-pub repeat-stays : (ws b : List ℕ) (room : ℕ) (r : Report) → Row ws → ((k : ℕ) → getD ws k 0 < word)
-    → wellFormed (stateOf ws) ≡ true → fullRoom ≤ room
-    → checkOf b ≡ 0 → eventOf b ≡ aReport r → repeats (stateOf ws) r ≡ true
-    → stepRow ws b room ≡ record { refusal = 0; written = []; words = ws }
-repeat-stays ws b room r row below well fits read is e =
-    on-row ws b room (is-row ws row)
-    ∙ rw (repeat-step (stateOf ws) r well e b room fits read is, words-state ws row below)
+pub repeat-stays : (ws b : List ℕ) (output : ℕ) (r : Report) → SoundTable ws → ((k : ℕ) → getD ws k 0 < word)
+    → fullRoom ≤ output → readCheck b ≡ 0 → eventOf b ≡ aReport r → repeats (tableOf ws (roomOf b)) r ≡ true
+    → stepWords ws b output ≡ record { refusal = 0; written = []; words = ws }
+unfolding stepWords
+repeat-stays ws b output r sound below fits read is e =
+    let room = roomOf b in
+    let l = read-facts b .0 read .1 in
+    let long = sound-length ws sound in
+    let row = sound-row (rowAt ws room) (sound-rows ws sound room l) in
+    let well = room-well (tableOf ws) (sound-table ws sound) room l in
+    let words : wordsOf (stateOf (rowAt ws room)) ≡ rowAt ws room = words-state (rowAt ws room) row (below-row room) in
+    rw (
+      sound-is ws sound,
+      step-in-room (tableOf ws) b output (sound-table ws sound) l,
+      repeat-step (tableOf ws room) r well e b output fits read is,
+      upd-same (tableOf ws) room (tableOf ws room),
+      words,
+      row-self ws room long l,
+    )
+  where
+    below-row : (room k : ℕ) → getD (rowAt ws room) k 0 < word
+    below-row room k = go (decLt k rowLength)
+      where
+        go : Dec (k < rowLength) → getD (rowAt ws room) k 0 < word
+        go (yes l) = rw (getD-part rowLength (rowPlace room) k ws 0 l) (below (rowPlace room + k))
+        go (no n) =
+            let t = length-take rowLength (drop (rowPlace room) ws) in
+            let past : length (rowAt ws room) ≤ k = omega arith in
+            rw (List·getD-eq-default (rowAt ws room) 0 {n = k} past) (omega arith)
 
 -- the bytes written stand in front, and those after them are untouched
 pub record InFront (bytes o o′ : List ℕ) : Type 0 where
@@ -61,21 +142,26 @@ pub record InFront (bytes o o′ : List ℕ) : Type 0 where
   pub untouched : drop (length bytes) o′ ≡ drop (length bytes) o
 
 -- what is written has room
-row-enough : (ws b : List ℕ) (room : ℕ) → size (stepRow ws b room .written) ≤ room
-unfolding stepRow
-row-enough ws b room =
-    if-cases (λ (q : RowResult). size (q .written) ≤ room) (isRow ws) _ _ (λ e. room-enough (stateOf ws) b room)
-    (λ e. rw no-bytes (omega arith))
+words-enough : (ws b : List ℕ) (output : ℕ) → size (stepWords ws b output .written) ≤ output
+unfolding stepWords allBytes
+words-enough ws b output =
+    if-cases (λ (q : WordsResult). size (q .written) ≤ output) (isTable ws) _ _
+    (λ e. table-by (tableOf ws) b output (λ q. size (q .written) ≤ output) (λ n d. omega arith)
+    (λ a. let l = event-size (tableOf ws (roomOf b)) (eventOf b) in omega (arith, a .accepts .fits)))
+    (λ e. omega arith)
 
 -- and is never more than every event has room in
-pub row-size : (ws b : List ℕ) (room : ℕ) → size (stepRow ws b room .written) ≤ fullRoom
-unfolding stepRow
-row-size ws b room = if-cases (λ (q : RowResult). size (q .written) ≤ fullRoom) (isRow ws) _ _
-    (λ e. step-size (stateOf ws) b room) (λ e. rw no-bytes (omega arith))
+pub words-size : (ws b : List ℕ) (output : ℕ) → size (stepWords ws b output .written) ≤ fullRoom
+unfolding stepWords
+words-size ws b output = if-cases (λ (q : WordsResult). size (q .written) ≤ fullRoom) (isTable ws) _ _
+    (λ e. table-size (tableOf ws) b output) (λ e. rw (no-bytes 0) (omega arith))
 
-pub stepped-front : (ws b o o′ ws′ : List ℕ) (n w : ℕ) → Stepped (stepRow ws b (length o)) o n w ws′ o′
-    → InFront (allBytes (stepRow ws b (length o) .written)) o o′
+pub stepped-front : (ws b o o′ ws′ : List ℕ) (n w : ℕ)
+    → Stepped (roomOf b) (stepWords ws b (length o)) o n w ws′ o′
+    → InFront (allBytes (roomOf b) (stepWords ws b (length o) .written)) o o′
 stepped-front ws b o o′ ws′ n w h =
-    let bytes = allBytes (stepRow ws b (length o) .written) in
-    let l = row-enough ws b (length o) in
+    let bytes = allBytes (roomOf b) (stepWords ws b (length o) .written) in
+    let s = size-bytes (roomOf b) (stepWords ws b (length o) .written) in
+    let e = words-enough ws b (length o) in
+    let l : length bytes ≤ length o = omega arith in
     record { written = rw (h .same-out) (sets-front o bytes l); untouched = rw (h .same-out) (sets-rest o bytes l) }

@@ -7,11 +7,11 @@ use Rattle.laws.specs.Upd.{ifb}
 use Rattle.rules.specs.State.{State}
 use Rattle.records.specs.Numbers.{within}
 use Rattle.rules.specs.Refusals.{fullRoom}
-use Rattle.row.specs.Row.{soundRow}
+use Rattle.row.specs.Table.{soundTable}
 
--- checks 2 and 3 on words and an output
+-- checks 2, of every room, and 3 on words and an output
 unfoldable pub unready : List ℕ → ℕ → ℕ
-unready ws room = ifb (soundRow ws) (ifb (ltb room fullRoom) 3 0) 2
+unready ws output = ifb (soundTable ws) (ifb (ltb output fullRoom) 3 0) 2
 
 -- check 13 on the state that an event leaves: the numbers that it can make are within L
 abbrev pub madeWithin : State → Bool

@@ -1,4 +1,4 @@
-// Checks 1 to 3 and 11 to 13, and the order of 6 to 10, 19, 11 and 12. The records answer 4 and 5.
+// Checks 1 to 3 and 11 to 13, and the order of 6 to 10, 19, 11 and 12. The records answer 4, 5 and 20.
 use crate::form::form_refusal;
 use records::Proposal;
 use records::layout;
@@ -10,7 +10,7 @@ ghost use Rattle.rules.specs.Refusals.{madeOf, notAbove, usedAhead, proposalChe
 ghost use Rattle.row.specs.Row.{Row, stateOf};
 ghost use Rattle.step.specs.Checks.{unready, madeWithin};
 
-// The room that every event has enough of: a start notice and two proposals.
+// The output room that every event has enough of: a start notice and two proposals.
 pub const ROOM: usize = layout::NOTICE_LENGTH + 2 * layout::PROPOSAL_LENGTH;
 
 // Check 1.
@@ -20,14 +20,14 @@ pub fn office_refusal(office: u8) -> u8
     if office <= 15 { 0 } else { 1 }
 }
 
-// Checks 2 and 3.
-pub fn unready(state: &[u32], room: usize) -> u8
-    ensures { λ r. ⌜ r ≡ unready (now (state .entry)) room ⌝ }
+// Checks 2, of every room, and 3.
+pub fn unready(table: &[u32], output: usize) -> u8
+    ensures { λ r. ⌜ r ≡ unready (now (table .entry)) output ⌝ }
 {
-    if !row::checks::is_sound(state) {
+    if !row::table::is_sound(table) {
         return 2;
     }
-    if room < ROOM {
+    if output < ROOM {
         return 3;
     }
     0

@@ -1,5 +1,6 @@
-// Checks 6 to 13 and 19 on a record that was read. For 13, where a number that the event builds on is so near to L
-// that it could make one above, the event is tried on a copy of the row.
+// Checks 6 to 13 and 19 on a record that was read, in the row of its room. For 13, where a number that the event builds
+// on is so near to L that it could make one above, the event is tried on a copy of the row; which room it is does not
+// count there.
 use crate::checks::ROOM;
 use crate::checks::made_within;
 use crate::checks::proposal_refusal;
@@ -11,9 +12,8 @@ ghost use mathlib.Core.Path.{_≡_};
 ghost use mathlib.Core.Bool.{true};
 ghost use Rattle.rules.specs.Rules.{reportRule, proposalRule};
 ghost use Rattle.laws.specs.Checks.{firstOf};
-ghost use Rattle.rules.specs.Refusals.{wellFormed, proposalChecks, aReport, aProposal};
+ghost use Rattle.rules.specs.Refusals.{wellFormed, proposalChecks, aReport, aProposal, actOf};
 ghost use Rattle.row.specs.Row.{stateOf, soundRow};
-ghost use Rattle.step.specs.Tried.{refusalFrom};
 
 // Check 13 on a report: it makes no number above L. A repeat makes none.
 fn report_within(state: &[u32], r: Report) -> bool
@@ -29,7 +29,7 @@ fn report_within(state: &[u32], r: Report) -> bool
     let mut tried = [0u32; row::WORDS];
     let mut bytes = [0u8; ROOM];
     row::changes::copy(state, &mut tried);
-    act::on_report::act_on_change(&mut tried, r, &mut bytes);
+    act::on_report::act_on_change(&mut tried, r, &mut bytes, 0);
     made_within(&tried)
 }
 
@@ -48,29 +48,23 @@ fn proposal_within(state: &[u32], p: Proposal) -> bool
     let mut tried = [0u32; row::WORDS];
     let mut bytes = [0u8; ROOM];
     row::changes::copy(state, &mut tried);
-    act::on_proposal::act_on_proposal(&mut tried, p, &mut bytes);
+    act::on_proposal::act_on_proposal(&mut tried, p, &mut bytes, 0);
     made_within(&tried)
 }
 
-// The refusal of a report whose number by checks 4 and 5 is handed in, 0 where every check passes.
-pub fn report(state: &[u32], checked: u8, r: Report) -> u8
+// The refusal of a report, 0 where every check passes.
+pub fn report(state: &[u32], r: Report) -> u8
     requires { ⌜ soundRow (now state) ≡ true ⌝ }
-    ensures { λ n. ⌜ n ≡ refusalFrom checked (stateOf (now (state .entry))) (aReport r) ⌝ }
+    ensures { λ n. ⌜ n ≡ actOf (stateOf (now (state .entry))) (aReport r) .refusal ⌝ }
 {
-    if checked != 0 {
-        return checked;
-    }
     if report_within(state, r) { 0 } else { 13 }
 }
 
 // The same of a proposal.
-pub fn proposal(state: &[u32], checked: u8, p: Proposal) -> u8
+pub fn proposal(state: &[u32], p: Proposal) -> u8
     requires { ⌜ soundRow (now state) ≡ true ⌝ }
-    ensures { λ n. ⌜ n ≡ refusalFrom checked (stateOf (now (state .entry))) (aProposal p) ⌝ }
+    ensures { λ n. ⌜ n ≡ actOf (stateOf (now (state .entry))) (aProposal p) .refusal ⌝ }
 {
-    if checked != 0 {
-        return checked;
-    }
     let refusal = proposal_refusal(state, p);
     if refusal != 0 {
         return refusal;

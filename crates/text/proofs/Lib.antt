@@ -5,5 +5,6 @@ mod DigitPuts
 mod Puts
 -- lines
 pub mod LineLaws
+pub mod RoomLaws
 -- the example of document 01
 pub mod Example

@@ -14,10 +14,11 @@ use Rattle.records.specs.Run.{runCheck, runSize, runFirst, runRest}
 use Rattle.records.proofs.RunLaws.{Front, nothing, other, short, whole, front, first-rest, rest-shorter}
 use Rattle.records.proofs.RunLaws.{first-some, first-whole, first-nothing, first-passes, first-alone}
 use Rattle.records.proofs.Growing.{whole-stays, other-stays, other-check, short-check}
-use Rattle.records.specs.Layout.{checkOf}
-use Rattle.rules.specs.State.{State}
-use Rattle.rules.specs.Refusals.{fullRoom, wellFormed, unreadable, refused, madeOf, stepOf}
-use Rattle.text.specs.Lines.{frontOf, behindOf, answerFor, lineFor, goesOn, linesIn, linesOf, noOffice, textOf}
+use Rattle.records.specs.Layout.{checkOf, roomOf}
+use Rattle.rules.specs.Refusals.{fullRoom, allBytes, readCheck, unreadable, madeOf}
+use Rattle.rules.specs.Tables.{Table, wellTable, refusedTable, madeTable, stepTable}
+use Rattle.text.specs.Lines.{frontOf, behindOf, answerFor, goesOn, roomless, viewFor, lineFor, linesIn, linesOf}
+use Rattle.text.specs.Lines.{noOffice, textOf}
 
 module _ (b : List ℕ) where
   -- the record in front of a reading that does not end, and of one that does
@@ -69,63 +70,69 @@ module _ (b : List ℕ) where
       go (whole p l e s) = rw (behind-rest e) (rest-shorter b (omega arith))
 
 module _ (traced : Bool) where
-  lines-none : (k : ℕ) (s : State) (n : ℕ) (b : List ℕ) → length b ≡ 0 → linesIn k traced s n b ≡ []
+  lines-none : (k : ℕ) (t : Table) (n : ℕ) (b : List ℕ) → length b ≡ 0 → linesIn k traced t n b ≡ []
   unfolding linesIn
-  lines-none zero s n b h = refl
-  lines-none (suc k) s n b h = rw (eq-eqb (length b) 0 h)
+  lines-none zero t n b h = refl
+  lines-none (suc k) t n b h = rw (eq-eqb (length b) 0 h)
 
   -- any number of records that is enough
-  enough : (k j : ℕ) (s : State) (n : ℕ) (b : List ℕ) → length b ≤ k → length b ≤ j
-      → linesIn k traced s n b ≡ linesIn j traced s n b
+  enough : (k j : ℕ) (t : Table) (n : ℕ) (b : List ℕ) → length b ≤ k → length b ≤ j
+      → linesIn k traced t n b ≡ linesIn j traced t n b
   unfolding linesIn
-  enough zero j s n b h l = sym (lines-none j s n b (omega arith))
-  enough (suc k) zero s n b h l = lines-none (suc k) s n b (omega arith)
-  enough (suc k) (suc j) s n b h l = go (eqb (length b) 0) refl (λ p. let m = behind-shorter b p in
-      enough k j (answerFor s b .state) (n + 1) (behindOf b) (omega arith) (omega arith))
+  enough zero j t n b h l = sym (lines-none j t n b (omega arith))
+  enough (suc k) zero t n b h l = lines-none (suc k) t n b (omega arith)
+  enough (suc k) (suc j) t n b h l = go (eqb (length b) 0) refl (λ p. let m = behind-shorter b p in
+      enough k j (answerFor t b .table) (n + 1) (behindOf b) (omega arith) (omega arith))
     where
-      go : (t : Bool) → eqb (length b) 0 ≡ t
-          → (0 < length b → linesIn k traced (answerFor s b .state) (n + 1) (behindOf b)
-          ≡ linesIn j traced (answerFor s b .state) (n + 1) (behindOf b))
-          → linesIn (suc k) traced s n b ≡ linesIn (suc j) traced s n b
+      go : (c : Bool) → eqb (length b) 0 ≡ c
+          → (0 < length b → linesIn k traced (answerFor t b .table) (n + 1) (behindOf b)
+          ≡ linesIn j traced (answerFor t b .table) (n + 1) (behindOf b))
+          → linesIn (suc k) traced t n b ≡ linesIn (suc j) traced t n b
       go true e ih = rw e
       go false e ih = rw (e, ih (pos-of-ne-zero (eqb-false (length b) 0 e)))
 
-  pub lines-nil : (s : State) (n : ℕ) (b : List ℕ) → length b ≡ 0 → linesOf traced s n b ≡ []
+  pub lines-nil : (t : Table) (n : ℕ) (b : List ℕ) → length b ≡ 0 → linesOf traced t n b ≡ []
   unfolding linesOf
-  lines-nil s n b h = lines-none (length b) s n b h
+  lines-nil t n b h = lines-none (length b) t n b h
 
-  one-more : (k : ℕ) (s : State) (n : ℕ) (b : List ℕ) → 0 < length b
-      → linesIn (suc k) traced s n b
-      ≡ lineFor traced (n + 1) (answerFor s b)
-      ++ ifb (goesOn (answerFor s b .refusal)) (linesIn k traced (answerFor s b .state) (n + 1) (behindOf b)) []
+  one-more : (k : ℕ) (t : Table) (n : ℕ) (b : List ℕ) → 0 < length b
+      → linesIn (suc k) traced t n b
+      ≡ lineFor traced (n + 1) (roomOf (frontOf b)) (answerFor t b)
+      ++ ifb (goesOn (answerFor t b .refusal)) (linesIn k traced (answerFor t b .table) (n + 1) (behindOf b)) []
   unfolding linesIn
-  one-more k s n b h = rw (ne-eqb (length b) 0 (λ z. omega arith))
+  one-more k t n b h = rw (ne-eqb (length b) 0 (λ z. omega arith))
 
   -- the first record's line, then the rest where the program goes on
-  lines-first : (s : State) (n : ℕ) (b : List ℕ) → 0 < length b
-      → linesOf traced s n b
-      ≡ lineFor traced (n + 1) (answerFor s b)
-      ++ ifb (goesOn (answerFor s b .refusal)) (linesOf traced (answerFor s b .state) (n + 1) (behindOf b)) []
+  lines-first : (t : Table) (n : ℕ) (b : List ℕ) → 0 < length b
+      → linesOf traced t n b
+      ≡ lineFor traced (n + 1) (roomOf (frontOf b)) (answerFor t b)
+      ++ ifb (goesOn (answerFor t b .refusal)) (linesOf traced (answerFor t b .table) (n + 1) (behindOf b)) []
   unfolding linesOf
-  lines-first s n b h = go (length b) refl
+  lines-first t n b h = go (length b) refl
     where
-      a : State
-      a = answerFor s b .state
+      a : Table
+      a = answerFor t b .table
 
       go : (k : ℕ) → length b ≡ k
-          → linesIn (length b) traced s n b ≡ lineFor traced (n + 1) (answerFor s b)
-          ++ ifb (goesOn (answerFor s b .refusal)) (linesIn (length (behindOf b)) traced a (n + 1) (behindOf b)) []
+          → linesIn (length b) traced t n b ≡ lineFor traced (n + 1) (roomOf (frontOf b)) (answerFor t b)
+          ++ ifb (goesOn (answerFor t b .refusal)) (linesIn (length (behindOf b)) traced a (n + 1) (behindOf b)) []
       go zero e = absurd (omega arith)
       go (suc k) e =
           let m = behind-shorter b h in
-          enough (length b) (suc k) s n b (omega arith) (omega arith)
-          ∙ one-more k s n b h ∙ rw (enough k (length (behindOf b)) a (n + 1) (behindOf b) (omega arith) (omega arith))
+          enough (length b) (suc k) t n b (omega arith) (omega arith)
+          ∙ one-more k t n b h ∙ rw (enough k (length (behindOf b)) a (n + 1) (behindOf b) (omega arith) (omega arith))
 
 -- bytes that checks 4 or 5 refuse
-step-unread : (s : State) (b : List ℕ) → wellFormed s ≡ true → (checkOf b ≡ 0 → ⊥)
-    → stepOf s b fullRoom ≡ refused (checkOf b) s
-unfolding stepOf unreadable
-step-unread s b w n = rw (w, ne-eqb (checkOf b) 0 n, ne-eqb (checkOf b) 0 n)
+pub step-unread : (t : Table) (b : List ℕ) → wellTable t ≡ true → (checkOf b ≡ 0 → ⊥)
+    → stepTable t b fullRoom ≡ refusedTable (checkOf b) t
+unfolding stepTable unreadable readCheck
+step-unread t b w n = rw (w, ne-eqb (checkOf b) 0 n, ne-eqb (checkOf b) 0 n, ne-eqb (checkOf b) 0 n)
+
+-- their line names no room
+unread-line : (traced : Bool) (n room room′ : ℕ) (t : Table)
+    → lineFor traced n room (refusedTable 4 t) ≡ lineFor traced n room′ (refusedTable 4 t)
+unfolding lineFor viewFor roomless allBytes
+unread-line traced n room room′ t = refl
 
 stops : goesOn 4 ≡ false
 unfolding goesOn
@@ -142,15 +149,15 @@ pub data Decided (w f : List ℕ) : Type 0 where
   last : f ≡ [] → Decided w f
   marked : 2 ≤ length w → runCheck w ≡ 4 → Decided w f
 
-module _ (traced : Bool) (s : State) (n : ℕ) (well : wellFormed s ≡ true) (w f : List ℕ) (h : 0 < length w) where
+module _ (traced : Bool) (t : Table) (n : ℕ) (well : wellTable t ≡ true) (w f : List ℕ) (h : 0 < length w) where
   abbrev FirstLine : Type 0
-  FirstLine = linesOf traced s n (w ++ f) ≡ lineFor traced (n + 1) (answerFor s w)
-      ++ ifb (goesOn (answerFor s w .refusal)) (linesOf traced (answerFor s w .state) (n + 1) (behindOf w ++ f)) []
+  FirstLine = linesOf traced t n (w ++ f) ≡ lineFor traced (n + 1) (roomOf (frontOf w)) (answerFor t w)
+      ++ ifb (goesOn (answerFor t w .refusal)) (linesOf traced (answerFor t w .table) (n + 1) (behindOf w ++ f)) []
 
-  first : linesOf traced s n (w ++ f) ≡ lineFor traced (n + 1) (answerFor s (w ++ f))
-      ++ ifb (goesOn (answerFor s (w ++ f) .refusal))
-      (linesOf traced (answerFor s (w ++ f) .state) (n + 1) (behindOf (w ++ f))) []
-  first = lines-first traced s n (w ++ f) (let g = length-append w f in omega arith)
+  first : linesOf traced t n (w ++ f) ≡ lineFor traced (n + 1) (roomOf (frontOf (w ++ f))) (answerFor t (w ++ f))
+      ++ ifb (goesOn (answerFor t (w ++ f) .refusal))
+      (linesOf traced (answerFor t (w ++ f) .table) (n + 1) (behindOf (w ++ f))) []
+  first = lines-first traced t n (w ++ f) (let g = length-append w f in omega arith)
 
   same : frontOf (w ++ f) ≡ frontOf w → behindOf (w ++ f) ≡ behindOf w ++ f → FirstLine
   same a b = first ∙ rw (a, b)
@@ -161,24 +168,24 @@ module _ (traced : Bool) (s : State) (n : ℕ) (well : wellFormed s ≡ true) (w
       same (front-first (w ++ f) (k .0) ∙ k .1 ∙ sym (front-first w e))
       (behind-rest (w ++ f) (k .0) ∙ k .2 ∙ ap (λ (l : List ℕ). l ++ f) (sym (behind-rest w e)))
   decided-text (last e) =
-      rw e (lines-first traced s n (w ++ []) (rw (append-nil w) h) ∙ rw (append-nil w, append-nil (behindOf w)))
+      rw e (lines-first traced t n (w ++ []) (rw (append-nil w) h) ∙ rw (append-nil w, append-nil (behindOf w)))
   decided-text (marked l e) =
       let d = other-stays w f l e in
-      let a : answerFor s (w ++ f) ≡ refused 4 s = stopped (w ++ f) d in
-      let b : answerFor s w ≡ refused 4 s = stopped w e in
-      first ∙ rw (a, b, stops)
+      let a : answerFor t (w ++ f) ≡ refusedTable 4 t = stopped (w ++ f) d in
+      let b : answerFor t w ≡ refusedTable 4 t = stopped w e in
+      first ∙ rw (a, b, stops) (ap (λ (l : List ℕ). l ++ []) (unread-line traced (n + 1) _ _ t))
     where
-      stopped : (b : List ℕ) → runCheck b ≡ 4 → answerFor s b ≡ refused 4 s
+      stopped : (b : List ℕ) → runCheck b ≡ 4 → answerFor t b ≡ refusedTable 4 t
       stopped b z =
           let k = other-check b z in
-          rw (front-all b (λ y. omega arith)) (step-unread s b well (λ y. omega arith) ∙ rw k)
+          rw (front-all b (λ y. omega arith)) (step-unread t b well (λ y. omega arith) ∙ rw k)
 
 -- a record after which the program goes on came whole: it passes checks 4 and 5 by itself, and has its line by itself
-module _ (traced : Bool) (s : State) (n : ℕ) (well : wellFormed s ≡ true) (w : List ℕ) (h : 0 < length w)
-    (on : goesOn (answerFor s w .refusal) ≡ true) where
+module _ (traced : Bool) (t : Table) (n : ℕ) (well : wellTable t ≡ true) (w : List ℕ) (h : 0 < length w)
+    (on : goesOn (answerFor t w .refusal) ≡ true) where
   abbrev Whole : Type 0
-  Whole = (checkOf (frontOf w) ≡ 0) × ((f : List ℕ) → linesOf traced s n (frontOf w ++ f)
-      ≡ lineFor traced (n + 1) (answerFor s w) ++ linesOf traced (answerFor s w .state) (n + 1) f)
+  Whole = (checkOf (frontOf w) ≡ 0) × ((f : List ℕ) → linesOf traced t n (frontOf w ++ f)
+      ≡ lineFor traced (n + 1) (roomOf (frontOf w)) (answerFor t w) ++ linesOf traced (answerFor t w .table) (n + 1) f)
 
   alone : 0 < runSize w → runCheck w ≡ 0 → Whole
   alone p e =
@@ -188,13 +195,14 @@ module _ (traced : Bool) (s : State) (n : ℕ) (well : wellFormed s ≡ true) (w
       let d : behindOf (frontOf w) ≡ [] = rw b (behind-rest (runFirst w) (a .0) ∙ a .2) in
       let q = first-passes w p in (
         rw b q,
-        λ f. decided-text traced s n well (frontOf w) f (rw b (first-some w p)) (entire (rw b (a .0)))
+        λ f. decided-text traced t n well (frontOf w) f (rw b (first-some w p)) (entire (rw b (a .0)))
             ∙ rw (c, on, d),
       )
 
   refused-stops : {k : ℕ} → (runCheck w ≡ 0 → ⊥) → checkOf w ≡ k → goesOn k ≡ false → (k ≡ 0 → ⊥) → ⊥
   refused-stops z c g k =
-      let a : answerFor s w ≡ refused (checkOf w) s = rw (front-all w z) (step-unread s w well (λ y. k (sym c ∙ y))) in
+      let a : answerFor t w ≡ refusedTable (checkOf w) t =
+      rw (front-all w z) (step-unread t w well (λ y. k (sym c ∙ y))) in
       true-false _ on (rw (a, c) g)
 
   pub came-whole : Whole
@@ -208,12 +216,12 @@ module _ (traced : Bool) (s : State) (n : ℕ) (well : wellFormed s ≡ true) (w
 
 -- where no office byte came, the text is that for an office that is none
 pub no-office : (traced : Bool) (f : List ℕ) → textOf traced [] ≡ textOf traced (16 ∷ f)
-unfolding textOf madeOf
+unfolding textOf madeTable madeOf
 no-office traced f = refl
 
--- the first byte makes a state, or the one line is the text
+-- the first byte makes a table, with the same state in every room, or the one line is the text
 pub text-made : (traced : Bool) (office : ℕ) (f : List ℕ)
     → textOf traced (office ∷ f)
-    ≡ ifb (eqb (madeOf office .refusal) 0) (linesOf traced (madeOf office .state) 0 f) noOffice
-unfolding textOf
+    ≡ ifb (eqb (madeOf office .refusal) 0) (linesOf traced (λ room. madeOf office .state) 0 f) noOffice
+unfolding textOf madeTable
 text-made traced office f = refl

@@ -5,9 +5,10 @@ use Prim.Native.Nat.{ℕ, zero, suc, _+_}
 use lib.ListN.{length}
 use lib.Dec.{eqb}
 use Rattle.laws.specs.Upd.{ifb}
+use Rattle.records.specs.Layout.{roomOf}
 use Rattle.records.specs.Run.{runCheck, runFirst, runRest}
-use Rattle.rules.specs.State.{State}
-use Rattle.rules.specs.Refusals.{fullRoom, Result, madeOf, stepOf, allBytes, size}
+use Rattle.rules.specs.Refusals.{fullRoom, allBytes, size}
+use Rattle.rules.specs.Tables.{Table, TableResult, madeTable, stepTable}
 use Rattle.text.specs.Text.{lineOf}
 
 -- the record in front, cut by its mark's length; where the reading ends with 4 or 5, all the rest is that record
@@ -19,13 +20,8 @@ unfoldable pub behindOf : List ℕ → List ℕ
 behindOf b = ifb (eqb (runCheck b) 0) (runRest b) []
 
 -- the step on the record in front
-abbrev pub answerFor : State → List ℕ → Result
-answerFor s b = stepOf s (frontOf b) fullRoom
-
--- the line of record n: its number, refusal or 0, bytes written, current view number; traced, the bytes behind them
-unfoldable pub lineFor : Bool → ℕ → Result → List ℕ
-lineFor traced n q =
-    lineOf n (q .refusal) (size (q .written)) (q .state .view .number) (ifb traced (allBytes (q .written)) [])
+abbrev pub answerFor : Table → List ℕ → TableResult
+answerFor t b = stepTable t (frontOf b) fullRoom
 
 -- with 4 or 5 the reading of the input ends
 abbrev pub endsReading : ℕ → Bool
@@ -35,17 +31,31 @@ endsReading refusal = eqb refusal 4 || eqb refusal 5
 unfoldable pub goesOn : ℕ → Bool
 goesOn refusal = not (endsReading refusal)
 
+-- with 4, 5 or 20 the record is of no room
+unfoldable pub roomless : ℕ → Bool
+roomless refusal = endsReading refusal || eqb refusal 20
+
+-- the current view number of the record's room, 0 where it is of none
+unfoldable pub viewFor : ℕ → TableResult → ℕ
+viewFor room q = ifb (roomless (q .refusal)) 0 (q .table room .view .number)
+
+-- the line of record n, which names this room: its number, refusal or 0, bytes written, current view number; traced,
+-- the bytes behind them
+unfoldable pub lineFor : Bool → ℕ → ℕ → TableResult → List ℕ
+lineFor traced n room q =
+    lineOf n (q .refusal) (size (q .written)) (viewFor room q) (ifb traced (allBytes room (q .written)) [])
+
 -- the lines of at most k records, where n records came before
-unfoldable pub linesIn : ℕ → Bool → State → ℕ → List ℕ → List ℕ
-linesIn zero traced s n b = []
-linesIn (suc k) traced s n b =
+unfoldable pub linesIn : ℕ → Bool → Table → ℕ → List ℕ → List ℕ
+linesIn zero traced t n b = []
+linesIn (suc k) traced t n b =
     ifb (eqb (length b) 0) []
-    (lineFor traced (n + 1) (answerFor s b)
-    ++ ifb (goesOn (answerFor s b .refusal)) (linesIn k traced (answerFor s b .state) (n + 1) (behindOf b)) [])
+    (lineFor traced (n + 1) (roomOf (frontOf b)) (answerFor t b)
+    ++ ifb (goesOn (answerFor t b .refusal)) (linesIn k traced (answerFor t b .table) (n + 1) (behindOf b)) [])
 
 -- the text for the rest of an input, which has no more records than bytes
-unfoldable pub linesOf : Bool → State → ℕ → List ℕ → List ℕ
-linesOf traced s n b = linesIn (length b) traced s n b
+unfoldable pub linesOf : Bool → Table → ℕ → List ℕ → List ℕ
+linesOf traced t n b = linesIn (length b) traced t n b
 
 -- no office byte, or one above 15
 unfoldable pub noOffice : List ℕ
@@ -54,4 +64,5 @@ noOffice = lineOf 0 1 0 0 []
 -- the text for an input: the office, then records end to end
 unfoldable pub textOf : Bool → List ℕ → List ℕ
 textOf traced [] = noOffice
-textOf traced (office ∷ b) = ifb (eqb (madeOf office .refusal) 0) (linesOf traced (madeOf office .state) 0 b) noOffice
+textOf traced (office ∷ b) =
+    ifb (eqb (madeTable office .refusal) 0) (linesOf traced (madeTable office .table) 0 b) noOffice

@@ -45,6 +45,7 @@ waitingForOfAll s = answerBy lowestLackingOfAll s
 -- document 01's number for an answer
 unfoldable pub refusalIn : Waiting → ℕ
 refusalIn answers.Malformed = 2
+refusalIn answers.NoRoom = 20
 refusalIn answers.Nobody = 0
 refusalIn answers.Met = 0
 refusalIn (answers.For o) = 0
@@ -56,9 +57,10 @@ metValue = 16
 abbrev pub nobodyValue : ℕ
 nobodyValue = 17
 
--- and the value of an answer for C: an office, or that it is met, or nobody, also with 2
+-- and the value of an answer for C: an office, or that it is met, or nobody, also with 2 and 20
 unfoldable pub valueIn : Waiting → ℕ
 valueIn answers.Malformed = nobodyValue
+valueIn answers.NoRoom = nobodyValue
 valueIn answers.Nobody = nobodyValue
 valueIn answers.Met = metValue
 valueIn (answers.For o) = o

@@ -1,46 +1,49 @@
 -- For lib: the answers of the code, case by case.
-use mathlib.Core.Path.{_≡_, refl, sym, _∙_}
+use mathlib.Core.Path.{_≡_, sym, _∙_}
 use mathlib.Core.Bool.{Bool, true, false, _||_, not}
 use mathlib.Core.List.{List}
 use Prim.Native.Nat.{ℕ, _≤_, _<_}
 use lib.Dec.{eqb}
 use borrow.Author.Tests.{lt-ltb, le-ltb}
-use Rattle.laws.specs.Upd.{ifb}
 use Rattle.seats.specs.declared.SeatSet.{SeatSet}
 use Rattle.seats.specs.Offices.{serves}
+use Rattle.records.specs.Numbers.{roomAbove}
 use Rattle.rules.specs.State.{State, kindOf}
 use Rattle.rules.specs.Rules.{seated}
-use Rattle.row.specs.Row.{stateOf, isRow, soundRow}
-use Rattle.row.proofs.Low.{is-row, sound-row, sound-well, sound-words}
+use Rattle.row.specs.Row.{stateOf, soundRow}
+use Rattle.row.specs.Table.{tableOf, soundTable}
+use Rattle.row.proofs.Low.{sound-well}
 use Rattle.waiting.specs.declared.Waiting.the-variants as answers
 use Rattle.waiting.specs.Waiting.{lowestLacking, forNobody, waitingFor}
 use Rattle.rule_laws.proofs.Modes.{kind-is-none}
-use Rattle.waiting.proofs.Laws.{answer-malformed, answer-nobody, answer-found}
-use Rattle.waiting_for.specs.Row.{waitingRow}
+use Rattle.waiting.proofs.Laws.{answer-nobody, answer-found}
+use Rattle.waiting_for.specs.Table.{waitingWords}
 
-module _ (ws : List ℕ) where
-  pub unsound : soundRow ws ≡ false → answers.Malformed ≡ waitingRow ws
-  unfolding waitingRow
-  unsound e = go (isRow ws) refl
-    where
-      go : (b : Bool) → isRow ws ≡ b → answers.Malformed ≡ ifb b (waitingFor (stateOf ws)) answers.Malformed
-      go true i = sym (answer-malformed _ (sym (sound-words ws i) ∙ e))
-      go false i = refl
+-- in the row of a room
+module _ (ws : List ℕ) (e : soundRow ws ≡ true) where
+  pub for-nobody : forNobody (stateOf ws) ≡ true → answers.Nobody ≡ waitingFor (stateOf ws)
+  for-nobody n = sym (answer-nobody _ (sound-well ws e) n)
 
-  sound : soundRow ws ≡ true → waitingRow ws ≡ waitingFor (stateOf ws)
-  unfolding waitingRow
-  sound e = rw (is-row ws (sound-row ws e))
+  module _ (o : ℕ) (n : forNobody (stateOf ws) ≡ false) (q : o ≡ lowestLacking (stateOf ws)) where
+    pub for-office : o < 16 → answers.For o ≡ waitingFor (stateOf ws)
+    for-office l = sym (answer-found _ (sound-well ws e) n ∙ rw (← q, lt-ltb o 16 l))
 
-  pub for-nobody : soundRow ws ≡ true → forNobody (stateOf ws) ≡ true → answers.Nobody ≡ waitingRow ws
-  for-nobody e n = sym (sound e ∙ answer-nobody _ (sound-well ws e) n)
+    pub is-met : 16 ≤ o → answers.Met ≡ waitingFor (stateOf ws)
+    is-met l = sym (answer-found _ (sound-well ws e) n ∙ rw (← q, le-ltb o 16 l))
 
-  pub for-office : (o : ℕ) → soundRow ws ≡ true → forNobody (stateOf ws) ≡ false → o ≡ lowestLacking (stateOf ws)
-      → o < 16 → answers.For o ≡ waitingRow ws
-  for-office o e n q l = sym (sound e ∙ answer-found _ (sound-well ws e) n ∙ rw (← q, lt-ltb o 16 l))
+-- in a table
+module _ (ws : List ℕ) (room : ℕ) where
+  pub unsound : soundTable ws ≡ false → answers.Malformed ≡ waitingWords ws room
+  unfolding waitingWords
+  unsound e = rw e
 
-  pub is-met : (o : ℕ) → soundRow ws ≡ true → forNobody (stateOf ws) ≡ false → o ≡ lowestLacking (stateOf ws) → 16 ≤ o
-      → answers.Met ≡ waitingRow ws
-  is-met o e n q l = sym (sound e ∙ answer-found _ (sound-well ws e) n ∙ rw (← q, le-ltb o 16 l))
+  pub no-room : soundTable ws ≡ true → roomAbove room ≡ true → answers.NoRoom ≡ waitingWords ws room
+  unfolding waitingWords
+  no-room e a = rw (e, a)
+
+  pub in-room : soundTable ws ≡ true → roomAbove room ≡ false → waitingFor (tableOf ws room) ≡ waitingWords ws room
+  unfolding waitingWords
+  in-room e a = rw (e, a)
 
 -- whether nobody is waited for, by what the code has read
 pub nobody-by : (s : State) (kind : ℕ) (net : SeatSet) (own : ℕ) (seat : Bool) → kind ≡ kindOf (s .mode)

@@ -1,11 +1,15 @@
-// Whom an office waits for, asked of any words, which are only read; waiting_for is open to every layer above.
+// Whom an office waits for in a room, asked of any words, which are only read; waiting_for is open to every layer
+// above.
 use agree::lacking::lowest_lacking;
+use records::numbers::room_above;
+use row::table;
 use seats::offices::serves;
 ghost use mathlib.Core.Path.{_≡_};
+ghost use mathlib.Core.Bool.{true};
 ghost use Prim.Native.Nat.{_<_};
-ghost use Rattle.row.specs.Row.{Row, stateOf};
-ghost use Rattle.waiting.specs.Waiting.{forNobody};
-ghost use Rattle.waiting_for.specs.Row.{waitingRow};
+ghost use Rattle.row.specs.Row.{Row, stateOf, soundRow};
+ghost use Rattle.waiting.specs.Waiting.{forNobody, waitingFor};
+ghost use Rattle.waiting_for.specs.Table.{waitingWords};
 pub use waiting::Waiting;
 
 // Mode none, or no seat of this office in the net view.
@@ -18,12 +22,11 @@ fn for_nobody(state: &[u32]) -> bool
     idle | !seated
 }
 
-pub fn waiting_for(state: &[u32]) -> Waiting
-    ensures { λ r. ⌜ r ≡ waitingRow (now (state .entry)) ⌝ }
+// The answer of one room's row.
+fn in_row(state: &[u32]) -> Waiting
+    requires { ⌜ soundRow (now state) ≡ true ⌝ }
+    ensures { λ r. ⌜ r ≡ waitingFor (stateOf (now (state .entry))) ⌝ }
 {
-    if !row::checks::is_sound(state) {
-        return Waiting::Malformed;
-    }
     if for_nobody(state) {
         return Waiting::Nobody;
     }
@@ -32,4 +35,18 @@ pub fn waiting_for(state: &[u32]) -> Waiting
         return Waiting::For(o);
     }
     Waiting::Met
+}
+
+pub fn waiting_for(table: &[u32], room: u8) -> Waiting
+    ensures { λ r. ⌜ r ≡ waitingWords (now (table .entry)) room ⌝ }
+{
+    let sound = table::is_sound(table);
+    let above = room_above(room);
+    if !sound {
+        return Waiting::Malformed;
+    }
+    if above {
+        return Waiting::NoRoom;
+    }
+    in_row(table::row_of(table, room))
 }

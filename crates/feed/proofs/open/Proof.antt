@@ -1,14 +1,14 @@
 use borrow.Author.Tests.{not-false}
-use mathlib.Core.Path.{sym}
+use mathlib.Core.Path.{refl, sym}
 use borrow.Author.Needs.{needs}
 use Rattle.feed.proofs.open.Statement.{statement}
 use Rattle.feed.proofs.open.Tie as tie
 
-slice-aggregate-make-state : tie.Need-slice-aggregate-make-state
-slice-aggregate-make-state c = search needs
+slice-aggregate-make-table : tie.Need-slice-aggregate-make-table
+slice-aggregate-make-table c = search needs
 
-make-state-requires : tie.Need-make-state-requires
-make-state-requires c κs = search needs
+make-table-requires : tie.Need-make-table-requires
+make-table-requires c κs = search needs
 
 no-office-requires : tie.Need-no-office-requires
 no-office-requires c κs = search needs
@@ -43,13 +43,17 @@ slice-aggregate-serve-2 c = search needs
 slice-aggregate-serve-3 : tie.Need-slice-aggregate-serve-3
 slice-aggregate-serve-3 c = search needs
 
+slice-aggregate-serve-4 : tie.Need-slice-aggregate-serve-4
+slice-aggregate-serve-4 c = search needs
+
 serve-requires : tie.Need-serve-requires
 serve-requires c κs =
-    let b = c .before .before .before in
+    let b = c .before .before .before .before in
     let i = b .before .before .if1 .left in
     record {
-      sound = b .before .before .before .before .make-state .ensures .sound (not-false _ i);
+      sound = b .before .before .before .before .make-table .ensures .sound (not-false _ i);
       input = sym (b .before .large-buffer .ensures);
+      room = refl;
       output = sym (b .large-buffer2 .ensures);
     }
 
@@ -60,8 +64,8 @@ pub open-spec : {M : Type 1} → statement M
 open-spec =
     tie.close
     (tie.spec
-    slice-aggregate-make-state
-    make-state-requires
+    slice-aggregate-make-table
+    make-table-requires
     no-office-requires
     slice-aggregate-flush
     flush-requires
@@ -73,5 +77,6 @@ open-spec =
     slice-aggregate-serve
     slice-aggregate-serve-2
     slice-aggregate-serve-3
+    slice-aggregate-serve-4
     serve-requires
     returns-3)

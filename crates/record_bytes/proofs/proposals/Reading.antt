@@ -1,8 +1,8 @@
--- For proposals: what read_proposal answers: the number by its own checks, and the record where that is 0.
+-- For proposals: what read_proposal answers: the number by its own checks, the room and the record where that is 0.
 use mathlib.Core.Path.{_≡_, refl}
 use mathlib.Core.List.{List}
 use Prim.Native.Nat.{ℕ}
-use Rattle.records.specs.Layout.{proposalMark, proposalLength, decodeProposal, checkOwn}
+use Rattle.records.specs.Layout.{proposalMark, proposalLength, roomOf, decodeProposal, checkOwn}
 use Rattle.record_bytes.specs.proposals.Read.{readProposal}
 
 module _ (b : List ℕ) where
@@ -13,3 +13,7 @@ module _ (b : List ℕ) where
   pub proposal-decoded : readProposal b .refusal ≡ 0 → readProposal b .proposal ≡ decodeProposal b
   unfolding readProposal
   proposal-decoded z = rw z
+
+  pub proposal-room-read : readProposal b .refusal ≡ 0 → readProposal b .room ≡ roomOf b
+  unfolding readProposal
+  proposal-room-read z = rw z

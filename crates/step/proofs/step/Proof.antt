@@ -1,5 +1,6 @@
 use mathlib.Core.Path.{sym, _∙_}
 use lib.ListN.{length}
+use Rattle.records.specs.Layout.{roomOf}
 use Rattle.step.proofs.Readiness.{ready-facts}
 use Rattle.step.proofs.Exits.{refuse-meets}
 use Rattle.step.proofs.Unready.{exit-unready}
@@ -21,15 +22,15 @@ returns c =
     let c7 = c .before .before .before .before .before .before .before in
     let a = c7 .args in
     let n = c .before .before .unready in
-    refuse-meets _ (n .result) (a .state .now) (a .out .now) (c .refuse .result)
-    (exit-unready (a .state .now) (a .«record» .now) (length (a .out .now)) (n .result) (n .ensures)
+    refuse-meets (roomOf (a .«record» .now)) _ (n .result) (a .table .now) (a .out .now) (c .refuse .result)
+    (exit-unready (a .table .now) (a .«record» .now) (length (a .out .now)) (n .result) (n .ensures)
     (c .before .if1 .taken)) (c .refuse .ensures)
 
 on-record-requires : tie.Need-on-record-requires
 on-record-requires c κs =
     let c3 = c .before .before .before in
     let a = c3 .before .before .before .before .before .args in
-    let e = ready-facts (a .state .now) (length (a .out .now))
+    let e = ready-facts (a .table .now) (length (a .out .now))
     (sym (c3 .unready .ensures) ∙ c .before .before .if1 .left) in
     record {
       sound = e .0;

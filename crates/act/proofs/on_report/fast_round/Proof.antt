@@ -27,8 +27,8 @@ noticed-bounded c =
 noticed-seated : (c : tie.After-opens) → seated (stateOf (c .opens .last .0)) ≡ true
 noticed-seated c = rw (c .opens .ensures .is) (opens-seated _ ∙ c .before .before .before .before .before .pre .3)
 
-room : (c : tie.After-opens) → Fits later (c .opens .last .0) (c .opens .last .1 .0) (c .opens .result)
-room c =
+fits : (c : tie.After-opens) → Fits later (c .opens .last .0) (c .opens .last .1 .0) (c .opens .result)
+fits c =
     let c5 = c .before .before .before .before .before in
     let a = c5 .args in
     fits-second opens later (a .s .now) (a .out .now) 0 (c5 .pre .2) _ _ _ (c .opens .ensures)
@@ -48,7 +48,7 @@ proposes-fast-requires c κs =
     let d = c6 .opens in (
       d .ensures .row,
       bounded-le (limit + 1) _ (noticed-bounded c6) reach (omega arith),
-      fits-first proposesFast tests (d .last .0) (d .last .1 .0) (d .result) (room c6),
+      fits-first proposesFast tests (d .last .0) (d .last .1 .0) (d .result) (fits c6),
       noticed-seated c6,
     )
 
@@ -60,7 +60,7 @@ tests-requires c κs =
     let m = c13 .opens in (
       d .row,
       rw (d .is) (bounded-le (limit + 1 + 1) _ (fast-bounded (limit + 1) _ (noticed-bounded c13)) early (omega arith)),
-      fits-second proposesFast tests (m .last .0) (m .last .1 .0) (m .result) (room c13) _ _ _ d,
+      fits-second proposesFast tests (m .last .0) (m .last .1 .0) (m .result) (fits c13) _ _ _ d,
     )
 
 same-length : tie.Need-same-length

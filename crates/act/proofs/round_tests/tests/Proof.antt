@@ -10,9 +10,9 @@ use Rattle.act.proofs.round_tests.Outcomes.{tests-is}
 use Rattle.act.proofs.round_tests.tests.Statement.{statement}
 use Rattle.act.proofs.round_tests.tests.Tie as tie
 
-room : (c : tie.Start)
+fits : (c : tie.Start)
     → Fits (λ s. andThen (slowTest s) agreementTest) (c .args .s .now) (c .args .out .now) (c .args .at)
-room c =
+fits c =
     fits-as (λ s. andThen (slowTest s) agreementTest) tests (c .args .s .now) (c .args .out .now) (c .args .at)
     (tests-is _) (c .pre .2)
 
@@ -20,7 +20,7 @@ slow-test-requires : tie.Need-slow-test-requires
 slow-test-requires c κs =
     let b = c .before .before .before .before in
     let a = b .args in
-    (b .pre .0, b .pre .1, fits-first slowTest agreementTest (a .s .now) (a .out .now) (a .at) (room b))
+    (b .pre .0, b .pre .1, fits-first slowTest agreementTest (a .s .now) (a .out .now) (a .at) (fits b))
 
 agreement-test-requires : tie.Need-agreement-test-requires
 agreement-test-requires c κs =
@@ -29,7 +29,7 @@ agreement-test-requires c κs =
     let d = c .before .before .before .before .before .before .slow-test .ensures in (
       d .row,
       rw (d .is) (bounded-le (early + 2) _ (slowTest-bounded early _ (b .pre .1)) reach (omega arith)),
-      fits-second slowTest agreementTest (a .s .now) (a .out .now) (a .at) (room b) _ _ _ d,
+      fits-second slowTest agreementTest (a .s .now) (a .out .now) (a .at) (fits b) _ _ _ d,
     )
 
 same-length : tie.Need-same-length

@@ -15,8 +15,9 @@ use Rattle.agree.proofs.agreement.agreement_test.Tie as tie
 did : (c : tie.After-slice-known4)
     → let c6 = c .before .before .before .before .before .before in
     let c15 = c6 .before .before .before .before .before .before .before .before .before in
-    Did agreementTest (c15 .args .s .now) (c15 .args .out .now) (c15 .args .at) (c6 .conclude .last .0)
-    (c .before .before .write-view .last .0) (c15 .args .at + c .before .before .write-view .result)
+    Did (c15 .args .room) agreementTest (c15 .args .s .now) (c15 .args .out .now) (c15 .args .at)
+    (c6 .conclude .last .0) (c .before .before .write-view .last .0)
+    (c15 .args .at + c .before .before .write-view .result)
 did c =
     let c6 = c .before .before .before .before .before .before in
     let c10 = c6 .before .before .before .before in

@@ -23,14 +23,20 @@ enum-told-3 c = search needs
 call-number-requires-3 : tie.Need-call-number-requires-3
 call-number-requires-3 c κs = search needs
 
+enum-told-4 : tie.Need-enum-told-4
+enum-told-4 c = search needs
+
+call-number-requires-4 : tie.Need-call-number-requires-4
+call-number-requires-4 c κs = search needs
+
 enum-known-w : tie.Need-enum-known-w
 enum-known-w c = search needs
 
 cast-call-number : tie.Need-cast-call-number
 cast-call-number c = search needs
 
-call-number-requires-4 : tie.Need-call-number-requires-4
-call-number-requires-4 c κs = search needs
+call-number-requires-5 : tie.Need-call-number-requires-5
+call-number-requires-5 c κs = search needs
 
 returns : tie.Need-returns
 unfolding refusalIn valueIn numberOf
@@ -46,7 +52,11 @@ returns-3 c = c .call-number3 .ensures ∙ sym (ap numberOf (c .before .enum-tol
 
 returns-4 : tie.Need-returns-4
 unfolding refusalIn valueIn numberOf
-returns-4 c = c .call-number4 .ensures ∙ sym (ap numberOf (c .before .before .w .given .1))
+returns-4 c = c .call-number4 .ensures ∙ sym (ap numberOf (c .before .enum-told4 .given .1))
+
+returns-5 : tie.Need-returns-5
+unfolding refusalIn valueIn numberOf
+returns-5 c = c .call-number5 .ensures ∙ sym (ap numberOf (c .before .before .w .given .1))
 
 pub waiting-number-spec : {M : Type 1} → statement M
 waiting-number-spec =
@@ -58,10 +68,13 @@ waiting-number-spec =
     call-number-requires-2
     enum-told-3
     call-number-requires-3
+    enum-told-4
+    call-number-requires-4
     enum-known-w
     cast-call-number
-    call-number-requires-4
+    call-number-requires-5
     returns
     returns-2
     returns-3
-    returns-4)
+    returns-4
+    returns-5)

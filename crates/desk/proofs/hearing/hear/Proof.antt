@@ -1,7 +1,7 @@
 use mathlib.Core.Path.{sym, ap, _∙_}
 use Rattle.record_bytes.specs.declared.notices.NoticeRead.{NoticeRead}
 use Rattle.desk.specs.SeatChecks.{aNotice}
-use Rattle.desk.proofs.HearingLaws.{SeatRead, hear-6, hear-unread, hear-refused, hear-accepted}
+use Rattle.desk.proofs.HearingLaws.{SeatRead, hear-6, hear-unread, hear-20, hear-refused, hear-accepted}
 use Rattle.desk.proofs.Readers.{notice-read}
 use borrow.Author.Needs.{needs}
 use Rattle.desk.proofs.hearing.hear.Statement.{statement}
@@ -10,7 +10,7 @@ use Rattle.desk.proofs.hearing.hear.Tie as tie
 -- what the reader of notices told, where the mark is a notice's
 read : (c : tie.Else2) → let b = c .before .before .before .before .before .before .args .bytes .now in
     let r = c .before .before .read-notice .result in
-    SeatRead b (r .refusal) (aNotice (r .notice))
+    SeatRead b (r .refusal) (r .room) (aNotice (r .notice))
 read c = notice-read _ (c .before .before .read-notice .result) (c .before .before .read-notice .ensures)
     (c .if2 .left)
 
@@ -42,30 +42,46 @@ returns-3 c =
     let r = c .before .before .before in
     c .refuse2 .ensures ∙ sym (hear-unread _ _ (r .before .before .before .if1 .left) (read r) (c .before .if3 .taken))
 
-notice-refusal-requires : tie.Need-notice-refusal-requires
-notice-refusal-requires c κs = search needs
+room-above-requires : tie.Need-room-above-requires
+room-above-requires c κs = search needs
 
 refuse-requires-3 : tie.Need-refuse-requires-3
 refuse-requires-3 c κs = search needs
 
 returns-4 : tie.Need-returns-4
 returns-4 c =
-    let f = c .before .before in
-    let r = f .before .before .before in
+    let m = c .before .before in
+    let r = m .before .before .before in
     c .refuse3 .ensures
-    ∙ sym (hear-refused _ _ (r .before .before .before .if1 .left) (read r) (f .before .if3 .left) _
-    (f .notice-refusal .ensures) (c .before .if4 .taken))
+    ∙ sym (hear-20 _ _ (r .before .before .before .if1 .left) (read r) (m .before .if3 .left)
+    (sym (m .room-above .ensures) ∙ c .before .if4 .taken))
 
-after-notice-requires : tie.Need-after-notice-requires
-after-notice-requires c κs = search needs
+notice-refusal-requires : tie.Need-notice-refusal-requires
+notice-refusal-requires c κs = search needs
+
+refuse-requires-4 : tie.Need-refuse-requires-4
+refuse-requires-4 c κs = search needs
 
 returns-5 : tie.Need-returns-5
 returns-5 c =
     let f = c .before .before in
-    let r = f .before .before .before in
+    let m = f .before .before in
+    let r = m .before .before .before in
+    c .refuse4 .ensures
+    ∙ sym (hear-refused _ _ (r .before .before .before .if1 .left) (read r) (m .before .if3 .left)
+    (sym (m .room-above .ensures) ∙ f .before .if4 .left) _ (f .notice-refusal .ensures) (c .before .if5 .taken))
+
+after-notice-requires : tie.Need-after-notice-requires
+after-notice-requires c κs = search needs
+
+returns-6 : tie.Need-returns-6
+returns-6 c =
+    let f = c .before .before in
+    let m = f .before .before in
+    let r = m .before .before .before in
     rw (c .after-notice .ensures)
-    (sym (hear-accepted _ _ (r .before .before .before .if1 .left) (read r) (f .before .if3 .left)
-    (sym (f .notice-refusal .ensures) ∙ c .before .if4 .left)))
+    (sym (hear-accepted _ _ (r .before .before .before .if1 .left) (read r) (m .before .if3 .left)
+    (sym (m .room-above .ensures) ∙ f .before .if4 .left) (sym (f .notice-refusal .ensures) ∙ c .before .if5 .left)))
 
 pub hear-spec : {M : Type 1} → statement M
 hear-spec =
@@ -79,8 +95,11 @@ hear-spec =
     returns-2
     refuse-requires-2
     returns-3
-    notice-refusal-requires
+    room-above-requires
     refuse-requires-3
     returns-4
+    notice-refusal-requires
+    refuse-requires-4
+    returns-5
     after-notice-requires
-    returns-5)
+    returns-6)

@@ -11,7 +11,7 @@ use Rattle.event_parts.proofs.opening.opens.Tie as tie
 did : (c : tie.After-slice-known4)
     → let c6 = c .before .before .before .before .before .before in
     let c17 = c6 .before .before .before .before .before .before .before .before .before .before .before in
-    Did opens (c17 .args .s .now) (c17 .args .out .now) (c17 .args .at) (c6 .set-start .last .0)
+    Did (c17 .args .room) opens (c17 .args .s .now) (c17 .args .out .now) (c17 .args .at) (c6 .set-start .last .0)
     (c .before .before .write-notice .last .0) (c17 .args .at + c .before .before .write-notice .result)
 did c =
     let c6 = c .before .before .before .before .before .before in

@@ -9,7 +9,7 @@ use Rattle.feed.proofs.turning.advance.Tie as tie
 
 refill-requires : tie.Need-refill-requires
 refill-requires c κs =
-    let s = c .before .before .before .before .before in
+    let s = c .before .before .before .before .before .before in
     let r = s .pre .0 in
     let w = sym (s .pre .1) ∙ c .before .if1 .taken in
     (r .within, r .lent .input, read-room (s .args .p) (s .args .input .now) (r .lent .input) (r .within) w)
@@ -21,7 +21,7 @@ returns : tie.Need-returns
 returns c =
     let f = c .before .before .before .before in
     let i = f .before .before in
-    let s = i .before .before .before .before in
+    let s = i .before .before .before .before .before in
     let a = s .args in
     let r = s .pre .0 in
     advances-read (a .traced) (a .p) (a .input .now) (a .output .now) (r .lent .sound) (r .within)
@@ -29,7 +29,7 @@ returns c =
 
 returns-2 : tie.Need-returns-2
 returns-2 c =
-    let s = c .before .before .before .before .before .before in
+    let s = c .before .before .before .before .before .before .before in
     let a = s .args in
     let r = s .pre .0 in
     let w = r .within in
@@ -39,7 +39,7 @@ returns-2 c =
 
 answer-requires : tie.Need-answer-requires
 answer-requires c κs =
-    let s = c .before .before .before .before .before .before .before .before .before in
+    let s = c .before .before .before .before .before .before .before .before .before .before .before in
     let r = room-fits _ _ (s .pre .2) in
     (s .pre .0, r)
 
@@ -52,12 +52,15 @@ same-length-3 c = search needs
 same-length-4 : tie.Need-same-length-4
 same-length-4 c = search needs
 
+same-length-5 : tie.Need-same-length-5
+same-length-5 c = search needs
+
 returns-3 : tie.Need-returns-3
 returns-3 c =
-    let b = c .before .before .before .before in
-    let e = b .before .before .before .before in
+    let b = c .before .before .before .before .before .before in
+    let e = b .before .before .before .before .before in
     let i = e .before .before in
-    let s = i .before .before .before .before in
+    let s = i .before .before .before .before .before in
     let a = s .args in
     let r = s .pre .0 in
     let w = r .within in
@@ -77,4 +80,5 @@ advance-spec =
     same-length-2
     same-length-3
     same-length-4
+    same-length-5
     returns-3)

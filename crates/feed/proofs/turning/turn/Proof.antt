@@ -19,10 +19,10 @@ has-room-requires c κs = search needs
 
 advance-requires : tie.Need-advance-requires
 advance-requires c κs =
-    let t = c .before .before .before in
+    let t = c .before .before .before .before in
     let q = t .before .before .before .before .before .before in
     let b = q .before .before in
-    let s = b .before .before .before .before .before in
+    let s = b .before .before .before .before .before .before in
     let e = q .emptied in
     let r = sent-ready (s .args .input .now) (s .args .output .now) (s .pre) (e .ensures) (e .kept .1 .0) in
     (r .0, b .waits .ensures ∙ r .1, sym (t .before .has-room .ensures) ∙ t .if1 .taken)
@@ -36,30 +36,33 @@ same-length-2 c = search needs
 same-length-3 : tie.Need-same-length-3
 same-length-3 c = search needs
 
+same-length-4 : tie.Need-same-length-4
+same-length-4 c = search needs
+
 returns : tie.Need-returns
 returns c =
-    let n = c .before .before .before .before .before .before .before in
-    let t = n .before .before .before .before in
+    let n = c .before .before .before .before .before .before .before .before .before in
+    let t = n .before .before .before .before .before in
     let e = t .before .before .before .before .before .before in
     let b = e .before .before in
-    let s = b .before .before .before .before .before in
+    let s = b .before .before .before .before .before .before in
     let a = s .args in
     let q = e .emptied .ensures in
     turns-on (a .p) _ (a .output .now) _ (s .pre .within) (s .pre .lent .output) q
     (a .traced) (a .input .now) (b .waits .ensures) (sym (t .before .has-room .ensures) ∙ t .if1 .taken)
     (n .advance .ensures)
 
-same-length-4 : tie.Need-same-length-4
-same-length-4 c = search needs
-
 same-length-5 : tie.Need-same-length-5
 same-length-5 c = search needs
+
+same-length-6 : tie.Need-same-length-6
+same-length-6 c = search needs
 
 returns-2 : tie.Need-returns-2
 returns-2 c =
     let e = c .before .before .before .before .before .before in
     let b = e .before .before in
-    let s = b .before .before .before .before .before in
+    let s = b .before .before .before .before .before .before in
     let a = s .args in
     let q = e .emptied .ensures in
     let r = sent-ready (a .input .now) (a .output .now) (s .pre) q (e .emptied .kept .1 .0) in
@@ -79,7 +82,8 @@ turn-spec =
     same-length
     same-length-2
     same-length-3
-    returns
     same-length-4
+    returns
     same-length-5
+    same-length-6
     returns-2)

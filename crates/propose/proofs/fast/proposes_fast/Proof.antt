@@ -25,8 +25,9 @@ made c =
 did : (c : tie.After-slice-known4)
     → let c8 = c .before .before .before .before .before .before .before .before in
     let c15 = c8 .before .before .before .before .before .before .before in
-    Did proposesFast (c15 .args .s .now) (c15 .args .out .now) (c15 .args .at) (c8 .keep-own .last .0)
-    (c .before .before .write-proposal .last .0) (c15 .args .at + c .before .before .write-proposal .result)
+    Did (c15 .args .room) proposesFast (c15 .args .s .now) (c15 .args .out .now) (c15 .args .at)
+    (c8 .keep-own .last .0) (c .before .before .write-proposal .last .0)
+    (c15 .args .at + c .before .before .write-proposal .result)
 did c =
     let c4 = c .before .before .before .before in
     let c8 = c4 .before .before .before .before in

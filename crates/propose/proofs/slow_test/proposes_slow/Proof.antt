@@ -29,8 +29,9 @@ did : (c : tie.After-slice-known4)
     → let c6 = c .before .before .before .before .before .before in
     let c12 = c6 .before .before .before .before .before .before in
     let c17 = c12 .before .before .before .before .before in
-    Did proposesSlow (c17 .args .s .now) (c17 .args .out .now) (c17 .args .at) (c6 .keep-own .last .0)
-    (c .before .before .write-proposal .last .0) (c17 .args .at + c .before .before .write-proposal .result)
+    Did (c17 .args .room) proposesSlow (c17 .args .s .now) (c17 .args .out .now) (c17 .args .at)
+    (c6 .keep-own .last .0) (c .before .before .write-proposal .last .0)
+    (c17 .args .at + c .before .before .write-proposal .result)
 did c =
     let c6 = c .before .before .before .before .before .before in
     let c12 = c6 .before .before .before .before .before .before in

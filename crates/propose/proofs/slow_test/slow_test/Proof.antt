@@ -18,10 +18,10 @@ use Rattle.propose.proofs.slow_test.slow_test.Tie as tie
 idle : (c : tie.Then1) → stateOf (c .before .before .before .before .before .args .s .now) .mode ≡ None
 idle c = kind-none _ (sym (c .before .mode .ensures) ∙ c .if1 .taken)
 
-room : (c : tie.Then1)
+fits : (c : tie.Then1)
     → let c5 = c .before .before .before .before .before in
     Fits (λ s. andThen (opens s) proposesSlow) (c5 .args .s .now) (c5 .args .out .now) (c5 .args .at)
-room c =
+fits c =
     let c5 = c .before .before .before .before .before in
     let a = c5 .args in
     fits-as (λ s. andThen (opens s) proposesSlow) slowTest (a .s .now) (a .out .now) (a .at) (slow-first _ (idle c))
@@ -40,7 +40,7 @@ opens-requires c κs =
     let a = b .args in (
       b .pre .0,
       bounded-le early _ (b .pre .1) reach (omega arith),
-      fits-first opens proposesSlow (a .s .now) (a .out .now) (a .at) (room (c .before .before)),
+      fits-first opens proposesSlow (a .s .now) (a .out .now) (a .at) (fits (c .before .before)),
     )
 
 proposes-slow-requires : tie.Need-proposes-slow-requires
@@ -52,7 +52,7 @@ proposes-slow-requires c κs =
     let d = c6 .opens .ensures in (
       d .row,
       rw (d .is) (bounded-le (early + 1) _ (opens-bounded early _ (b .pre .1)) reach (omega arith)),
-      fits-second opens proposesSlow (a .s .now) (a .out .now) (a .at) (room c9) _ _ _ d,
+      fits-second opens proposesSlow (a .s .now) (a .out .now) (a .at) (fits c9) _ _ _ d,
     )
 
 same-length : tie.Need-same-length

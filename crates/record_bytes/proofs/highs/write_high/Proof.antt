@@ -8,8 +8,8 @@ use borrow.Author.Needs.{needs}
 use Rattle.record_bytes.proofs.highs.write_high.Statement.{statement}
 use Rattle.record_bytes.proofs.highs.write_high.Tie as tie
 
-room-requires : tie.Need-room-requires
-room-requires c κs = search needs
+space-requires : tie.Need-space-requires
+space-requires c κs = search needs
 
 returns : tie.Need-returns
 unfolding encodeHigh
@@ -49,7 +49,7 @@ pub write-high-spec : {M : Type 1} → statement M
 write-high-spec =
     tie.close
     (tie.spec
-    room-requires
+    space-requires
     returns
     put-mark-requires
     put32-requires

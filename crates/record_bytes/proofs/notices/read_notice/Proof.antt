@@ -11,20 +11,25 @@ check-own-requires c κs = search needs
 accepted-requires : tie.Need-accepted-requires
 accepted-requires c κs = search needs
 
+room-of-requires : tie.Need-room-of-requires
+room-of-requires c κs = search needs
+
 decode-notice-requires : tie.Need-decode-notice-requires
 decode-notice-requires c κs = search needs
 
 returns : tie.Need-returns
 unfolding readNotice
 returns c =
-    let n = c .before .before .check-own in
-    let b = c .before .before .before .before .before .args .bytes .now in
+    let n = c .before .before .before .check-own in
+    let b = c .before .before .before .before .before .before .args .bytes .now in
     rw (
       c .decode-notice .ensures,
-      c .before .accepted .ensures,
+      c .before .room-of .ensures,
+      c .before .before .accepted .ensures,
       sized-accepted noticeMark noticeLength b (n .result) (n .ensures),
       n .ensures,
     )
 
 pub read-notice-spec : {M : Type 1} → statement M
-read-notice-spec = tie.close (tie.spec check-own-requires accepted-requires decode-notice-requires returns)
+read-notice-spec =
+    tie.close (tie.spec check-own-requires accepted-requires room-of-requires decode-notice-requires returns)

@@ -11,20 +11,25 @@ check-own-requires c κs = search needs
 accepted-requires : tie.Need-accepted-requires
 accepted-requires c κs = search needs
 
+room-of-requires : tie.Need-room-of-requires
+room-of-requires c κs = search needs
+
 decode-report-requires : tie.Need-decode-report-requires
 decode-report-requires c κs = search needs
 
 returns : tie.Need-returns
 unfolding readReport
 returns c =
-    let n = c .before .before .check-own in
-    let b = c .before .before .before .before .before .args .bytes .now in
+    let n = c .before .before .before .check-own in
+    let b = c .before .before .before .before .before .before .args .bytes .now in
     rw (
       c .decode-report .ensures,
-      c .before .accepted .ensures,
+      c .before .room-of .ensures,
+      c .before .before .accepted .ensures,
       sized-accepted reportMark reportLength b (n .result) (n .ensures),
       n .ensures,
     )
 
 pub read-report-spec : {M : Type 1} → statement M
-read-report-spec = tie.close (tie.spec check-own-requires accepted-requires decode-report-requires returns)
+read-report-spec =
+    tie.close (tie.spec check-own-requires accepted-requires room-of-requires decode-report-requires returns)

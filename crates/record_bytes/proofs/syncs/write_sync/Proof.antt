@@ -9,8 +9,8 @@ use borrow.Author.Needs.{needs}
 use Rattle.record_bytes.proofs.syncs.write_sync.Statement.{statement}
 use Rattle.record_bytes.proofs.syncs.write_sync.Tie as tie
 
-room-requires : tie.Need-room-requires
-room-requires c κs = search needs
+space-requires : tie.Need-space-requires
+space-requires c κs = search needs
 
 returns : tie.Need-returns
 unfolding encodeSync
@@ -55,7 +55,7 @@ pub write-sync-spec : {M : Type 1} → statement M
 write-sync-spec =
     tie.close
     (tie.spec
-    room-requires
+    space-requires
     returns
     put-mark-requires
     put8-requires

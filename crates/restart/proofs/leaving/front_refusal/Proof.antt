@@ -3,8 +3,8 @@ use borrow.Author.Needs.{needs}
 use Rattle.restart.proofs.leaving.front_refusal.Statement.{statement}
 use Rattle.restart.proofs.leaving.front_refusal.Tie as tie
 
-no-room-requires : tie.Need-no-room-requires
-no-room-requires c κs = search needs
+short-output-requires : tie.Need-short-output-requires
+short-output-requires c κs = search needs
 
 no-record-requires : tie.Need-no-record-requires
 no-record-requires c κs = search needs
@@ -31,14 +31,14 @@ returns c =
       c .before .before .reason .ensures,
       s .cut-short .ensures,
       s .before .no-record .ensures,
-      s .before .before .no-room .ensures,
+      s .before .before .short-output .ensures,
     )
 
 pub front-refusal-spec : {M : Type 1} → statement M
 front-refusal-spec =
     tie.close
     (tie.spec
-    no-room-requires
+    short-output-requires
     no-record-requires
     cut-short-requires
     reason-requires

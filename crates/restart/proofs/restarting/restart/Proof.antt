@@ -1,4 +1,4 @@
-use Rattle.restart.proofs.RestartRows.{restart-refused-other, restart-2, restart-refuses, restart-0}
+use Rattle.restart.proofs.RestartTables.{restart-refused-other, restart-2, restart-refuses, restart-0}
 use borrow.Author.Needs.{needs}
 use Rattle.restart.proofs.restarting.restart.Statement.{statement}
 use Rattle.restart.proofs.restarting.restart.Tie as tie
@@ -14,7 +14,7 @@ returns c =
     let n = c .before .before in
     let m = n .before in
     let a = m .before .before .before .args in
-    restart-refused-other (a .office) (a .file .now) (a .state .now) (m .last-mark .result) (m .last-mark .ensures)
+    restart-refused-other (a .office) (a .file .now) (a .table .now) (m .last-mark .result) (m .last-mark .ensures)
     (n .restart-refusal .result) (n .restart-refusal .ensures) (c .before .if1 .taken) (c .if2 .taken)
 
 returns-2 : tie.Need-returns-2
@@ -22,7 +22,7 @@ returns-2 c =
     let n = c .before .before in
     let m = n .before in
     let a = m .before .before .before .args in
-    restart-2 (a .office) (a .file .now) (a .state .now) (m .last-mark .result) (m .last-mark .ensures)
+    restart-2 (a .office) (a .file .now) (a .table .now) (m .last-mark .result) (m .last-mark .ensures)
     (n .restart-refusal .result) (n .restart-refusal .ensures) (c .before .if1 .taken) (c .if2 .left)
 
 put-restarted-requires : tie.Need-put-restarted-requires
@@ -37,7 +37,7 @@ returns-3 c =
     let n = c4 .before .before in
     let m = n .before in
     let a = m .before .before .before .args in
-    restart-refuses (a .office) (a .file .now) (a .state .now) (m .last-mark .result) (m .last-mark .ensures)
+    restart-refuses (a .office) (a .file .now) (a .table .now) (m .last-mark .result) (m .last-mark .ensures)
     (n .restart-refusal .result) (n .restart-refusal .ensures) (c4 .before .if1 .left) _ (c4 .if3 .taken)
     (c .before .before .put-restarted .ensures)
 
@@ -53,7 +53,7 @@ returns-4 c =
     let n = c4 .before .before in
     let m = n .before in
     let a = m .before .before .before .args in
-    restart-0 (a .office) (a .file .now) (a .state .now) (m .last-mark .result) (m .last-mark .ensures)
+    restart-0 (a .office) (a .file .now) (a .table .now) (m .last-mark .result) (m .last-mark .ensures)
     (n .restart-refusal .result) (n .restart-refusal .ensures) (c4 .before .if1 .left) _ (c4 .if3 .left)
     (c .before .before .put-restarted2 .ensures)
 

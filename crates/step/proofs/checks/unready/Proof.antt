@@ -2,14 +2,14 @@ use mathlib.Core.Path.{_≡_, sym, _∙_}
 use mathlib.Core.Bool.{true}
 use native.Mathlib.Omega.{arith}
 use borrow.Author.Tests.{not-true, not-false}
-use Rattle.row.specs.Row.{soundRow}
+use Rattle.row.specs.Table.{soundTable}
 use Rattle.step.proofs.Readiness.{unready-2, unready-3, unready-0}
 use borrow.Author.Needs.{needs}
 use Rattle.step.proofs.checks.unready.Statement.{statement}
 use Rattle.step.proofs.checks.unready.Tie as tie
 
 -- check 2 passed
-sound : (c : tie.Else1) → soundRow (c .before .before .before .args .state .now) ≡ true
+sound : (c : tie.Else1) → soundTable (c .before .before .before .args .table .now) ≡ true
 sound c = sym (c .before .is-sound .ensures) ∙ not-false _ (c .if1 .left)
 
 is-sound-requires : tie.Need-is-sound-requires

@@ -1,4 +1,4 @@
-use Rattle.step.proofs.FreshRows.{fresh-1-other, fresh-2, fresh-1, fresh-0}
+use Rattle.step.proofs.FreshTables.{fresh-1-other, fresh-2, fresh-1, fresh-0}
 use borrow.Author.Needs.{needs}
 use Rattle.step.proofs.making.fresh.Statement.{statement}
 use Rattle.step.proofs.making.fresh.Tie as tie
@@ -10,14 +10,14 @@ returns : tie.Need-returns
 returns c =
     let c4 = c .before .before .before .before in
     let a = c4 .args in
-    fresh-1-other (a .office) (a .state .now) (c .before .before .office-refusal .result)
+    fresh-1-other (a .office) (a .table .now) (c .before .before .office-refusal .result)
     (c .before .before .office-refusal .ensures) (c .before .if1 .taken) (c .if2 .taken)
 
 returns-2 : tie.Need-returns-2
 returns-2 c =
     let c4 = c .before .before .before .before in
     let a = c4 .args in
-    fresh-2 (a .office) (a .state .now) (c .before .before .office-refusal .result)
+    fresh-2 (a .office) (a .table .now) (c .before .before .office-refusal .result)
     (c .before .before .office-refusal .ensures) (c .before .if1 .taken) (c .if2 .left)
 
 put-restarted-requires : tie.Need-put-restarted-requires
@@ -32,7 +32,7 @@ returns-3 c =
     let c8 = c4 .before .before .before .before in
     let a = c8 .args in
     let n = c4 .before .before .office-refusal in
-    fresh-1 (a .office) (a .state .now) (n .result) (n .ensures) (c4 .before .if1 .left) (c4 .if3 .taken) _
+    fresh-1 (a .office) (a .table .now) (n .result) (n .ensures) (c4 .before .if1 .left) (c4 .if3 .taken) _
     (c .before .before .put-restarted .ensures)
 
 put-restarted-requires-2 : tie.Need-put-restarted-requires-2
@@ -47,7 +47,7 @@ returns-4 c =
     let c8 = c4 .before .before .before .before in
     let a = c8 .args in
     let n = c4 .before .before .office-refusal in
-    fresh-0 (a .office) (a .state .now) (n .result) (n .ensures) (c4 .before .if1 .left) (c4 .if3 .left) _
+    fresh-0 (a .office) (a .table .now) (n .result) (n .ensures) (c4 .before .if1 .left) (c4 .if3 .left) _
     (c .before .before .put-restarted2 .ensures)
 
 pub fresh-spec : {M : Type 1} → statement M
