@@ -1,7 +1,8 @@
-/* The questions of the desk program: is this a report or proposal that can be handed in, which offices does a set of
- * seats concern, and how many are they? Then a desk at work in two rooms: seat 0 hears what its office sends it, and
- * says in words what it knows. It has one row of words for all rooms, and a sheet for each: the room of a record picks
- * what it is about. Link with libroom.a or libroom.so. */
+/* The questions of the desk program, which want no state of an office: have these bytes the mark and the length of a
+ * report or a proposal, which offices does a set of seats concern, how many are they; and does a record read for an
+ * office, or why is it rejected? Then a desk at work in two rooms: seat 0 hears what its office sends it, and says in
+ * words what it knows. It has one row of words for all rooms, and a sheet for each: the room of a record picks what it
+ * is about. Link with libroom.a or libroom.so. */
 #include "common.h"
 
 #include <string.h>
@@ -33,6 +34,44 @@ static void show(const char *what, const uint8_t *record, size_t length) {
     } else if (room_proposal_read(record, length, &p)) {
         say_offices("  offices of the members", p.members);
     }
+}
+
+/* One record on its way to an office: a broken one is rejected here, by the first reason, with no table at hand. */
+static void pass(const char *what, uint8_t to, const uint8_t *record, size_t length) {
+    uint8_t refused = room_read(to, record, length);
+    if (refused) printf("%s: rejected by %d, %s\n", what, refused, room_refusal_text(refused));
+    else printf("%s: passed on\n", what);
+}
+
+/* A record for each reason. Of the first proposal the used number for office 0 is one that this office may not have
+ * reached: that is for its table to say. */
+static void pass_all(uint64_t both) {
+    /* room, sender, kind, members, start number, proposal number, used numbers */
+    const struct { const char *what; uint8_t to; struct room_proposal p; } proposals[] = {
+        {"a proposal of office 1 for office 0", 0, {7, 1, ROOM_SLOW, both, 1, 3, {9, 2}}},
+        {"the same for office 1", 1, {7, 1, ROOM_SLOW, both, 1, 3, {9, 2}}},
+        {"the same for office 2", 2, {7, 1, ROOM_SLOW, both, 1, 3, {9, 2}}},
+        {"the same for office 16", 16, {7, 1, ROOM_SLOW, both, 1, 3, {9, 2}}},
+        {"one of room 8", 0, {8, 1, ROOM_SLOW, both, 1, 3, {9, 2}}},
+        {"one of office 16", 0, {7, 16, ROOM_SLOW, both, 1, 3, {9, 2}}},
+        {"one of kind 3", 0, {7, 1, 3, both, 1, 3, {9, 2}}},
+        {"one with start number 0", 0, {7, 1, ROOM_SLOW, both, 0, 3, {9, 2}}},
+        {"one without a seat of office 1", 0, {7, 1, ROOM_SLOW, room_seat(0), 1, 3, {9}}},
+        {"one that has used a number of office 2", 0, {7, 1, ROOM_SLOW, both, 1, 3, {9, 2, 1}}},
+        {"one that has used itself", 0, {7, 1, ROOM_SLOW, both, 1, 3, {9, 3}}},
+    };
+    uint8_t record[ROOM_PROPOSAL_BYTES], notice[ROOM_NOTICE_BYTES] = "SC";
+    for (size_t i = 0; i < sizeof proposals / sizeof *proposals; i++) {
+        size_t length = room_proposal_write(&proposals[i].p, record, sizeof record);
+        pass(proposals[i].what, proposals[i].to, record, length);
+    }
+    size_t length = room_report_write(7, both, both, record, sizeof record);
+    pass("a report for office 15", 15, record, length);
+    pass("the same, cut", 15, record, length - 1);
+    record[2] = ROOM_ROOMS, pass("one of room 8", 15, record, length);
+    pass("a start notice for office 15", 15, notice, sizeof notice);
+    pass("nothing for office 15", 15, record, 0);
+    pass("nothing for office 16", 16, record, 0);
 }
 
 /* A sync record, its own or another desk's, goes on the sheet of its room. It does not say which that is; whoever
@@ -78,7 +117,7 @@ static void hear(const char *what, const uint8_t *record, size_t length) {
 /* One record handed to the office; of what it writes, the desk hears what is for its seat. */
 static void hand(const char *what, const uint8_t *record, size_t length) {
     static const char *const names[] = {[ROOM_NOTICE] = "start notice", [ROOM_VIEW] = "view"};
-    uint32_t answer = room_step(office, ROOM_TABLE_WORDS, record, length, out, sizeof out);
+    uint32_t answer = room_step(0, office, ROOM_TABLE_WORDS, record, length, out, sizeof out);
     struct room_sent s = room_sent_in(out, room_value(answer));
     printf("%s: %u bytes\n", what, (unsigned)room_value(answer));
     while (room_next(&s)) {
@@ -118,6 +157,7 @@ int main(void) {
     say_offices("offices of no seat", 0);
     say_offices("offices of seats 3, 4 and 7", room_seat(3) | room_seat(4) | room_seat(7));
     say_offices("offices of all seats", UINT64_MAX);
+    pass_all(both);
 
     printf("the desk of seat 64: %d\n", room_desk_fresh(64, desk, ROOM_DESK_WORDS));
     printf("the desk of seat 0 in too few words: %d\n", room_desk_fresh(0, desk, ROOM_DESK_WORDS - 1));

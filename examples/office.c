@@ -25,7 +25,7 @@ static void say_room(const char *before, uint8_t room, const char *after) {
 /* One record handed in: its room byte picks the room. */
 static void hand(const char *what, const uint8_t *record, size_t length, size_t capacity) {
     uint8_t out[ROOM_OUTPUT_BYTES];
-    uint32_t answer = room_step(table, ROOM_TABLE_WORDS, record, length, out, capacity);
+    uint32_t answer = room_step(0, table, ROOM_TABLE_WORDS, record, length, out, capacity);
     unsigned refused = room_refused(answer), written = (unsigned)room_value(answer);
     printf("%s: %u, %s, %u bytes\n", what, refused, room_refusal_text(refused), written);
 
@@ -64,6 +64,8 @@ int main(void) {
     hand("office 1 proposes the same again", proposal, proposed, ROOM_OUTPUT_BYTES);
     one.room = ROOM_ROOMS, proposed = room_proposal_write(&one, proposal, sizeof proposal);
     hand("office 1 proposes in room 8", proposal, proposed, ROOM_OUTPUT_BYTES);
+    /* The record is read before the output is looked at. */
+    hand("office 1 proposes in room 8, with an output of no bytes", proposal, proposed, 0);
 
     printf("a report of room 8: %u bytes\n", room_report_write(ROOM_ROOMS, one.members, 0, report, sizeof report));
     say_room("", ROOM_ROOMS, "\n");

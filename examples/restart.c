@@ -59,7 +59,7 @@ static int keep_mark(const struct room_sent *s) {
 
 static void hand(const char *what, size_t length) {
     uint8_t out[ROOM_OUTPUT_BYTES];
-    uint32_t answer = room_step(office.table, ROOM_TABLE_WORDS, record, length, out, sizeof out);
+    uint32_t answer = room_step(0, office.table, ROOM_TABLE_WORDS, record, length, out, sizeof out);
     struct room_sent s = room_sent_in(out, room_value(answer));
     printf("%s: refusal %u, %u bytes\n", what, room_refused(answer), (unsigned)room_value(answer));
     while (room_next(&s) && keep_mark(&s)) say_sent(0, &s);

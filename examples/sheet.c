@@ -31,12 +31,12 @@ static void hear(unsigned seat, const struct room_sent *s) {
 }
 
 /* One record handed to an office; what it writes goes to its desks or to the other office. */
-static void hand(unsigned office, const uint8_t *record, size_t bytes) {
+static void hand(uint8_t office, const uint8_t *record, size_t bytes) {
     uint8_t out[ROOM_OUTPUT_BYTES];
-    uint32_t answer = room_step(offices[office], ROOM_TABLE_WORDS, record, bytes, out, sizeof out);
+    uint32_t answer = room_step(office, offices[office], ROOM_TABLE_WORDS, record, bytes, out, sizeof out);
     struct room_sent s = room_sent_in(out, room_value(answer));
     while (room_next(&s)) {
-        if (!s.to_seats) hand(1 - office, s.bytes, s.length);
+        if (!s.to_seats) hand(office == 0, s.bytes, s.length);
         for (unsigned seat = 0; s.to_seats && seat < ROOM_SEATS; seat++) {
             if (room_has(room_seats_of(s.members, office), seat)) hear(seat, &s);
         }

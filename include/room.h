@@ -41,7 +41,7 @@ extern "C" {
 /* The version of all that is below: it rises where a record, a row of words, a size or a call becomes another. Words
  * that a program of another version has stored must not be handed in, and all offices and desks of a room have one
  * version. Words are stored in the byte order of the machine; the bytes of records do not depend on it. */
-#define ROOM_VERSION 2
+#define ROOM_VERSION 3
 
 /* on one server: 0 to 7 */
 #define ROOM_ROOMS 8
@@ -131,22 +131,28 @@ ROOM_CALL uint8_t room_fresh(uint8_t office, uint32_t *table, size_t words);
  * is less or the room is above 7, and then no byte is touched. No byte behind those written is. */
 ROOM_CALL uint32_t room_report_write(uint8_t room, uint64_t joining, uint64_t leaving, uint8_t *out, size_t capacity);
 
-/* Hands the record of `length` bytes, a report or a proposal, to a table: the row of the record's room changes in
- * place, and acts with its own office. What is written stands from the start of `out`, whose length is `capacity`.
- * Answer: 256 x the bytes written + the refusal or 0.
- *   answer % 256  2   `words` is not ROOM_TABLE_WORDS, or the words are no table: one of the eight rows, whichever the
- *                     record's room is, is no state
- *                 3   `capacity` is under ROOM_OUTPUT_BYTES
- *                 4   or 5, as room_record_check answers
- *                 20  the record's room is above 7
- *                 6   a proposal's sender is above 15 or is this office, the own office of the row
+/* Hands the record of `length` bytes, a report or a proposal, to the table of an office. First it is read for
+ * `office`, as by room_read, whatever the words and the output are. Then the row of its room changes in place, and
+ * acts with its own office, which is `office` in a table that was made for it. What is written stands from the start
+ * of `out`, whose length is `capacity`. Answer: 256 x the bytes written + the refusal or 0.
+ *   answer % 256  1   `office` is above 15
+ *                 4   the record has under two bytes, or its mark is neither 4E 45 (report) nor 50 52 (proposal)
+ *                 5   its length is not that of its mark
+ *                 20  its room is above 7
+ *                 6   a proposal's sender is above 15 or is `office`
  *                 7   its kind is not 1 or 2
  *                 8   its start number or proposal number is 0 or above L, or a used number is above L
- *                 9   its members hold no seat of the sender or no seat of this office
+ *                 9   its members hold no seat of the sender or no seat of `office`
  *                 10  it has a used number that is not 0 for an office without a seat in the members
  *                 19  its used number for the sender is not below its proposal number
+ *                 2   `words` is not ROOM_TABLE_WORDS, or the words are no table: one of the eight rows, whichever the
+ *                     record's room is, is no state
+ *                 3   `capacity` is under ROOM_OUTPUT_BYTES
+ *                 where the own office of the room's row is another than `office`, these two once more:
+ *                 6   a proposal's sender is that own office
+ *                 9   its members hold no seat of that own office
  *                 11  its proposal number is not above the last accepted from this sender in this room
- *                 12  its used number for this office is above this office's proposal number in this room
+ *                 12  its used number for the row's own office is above that office's proposal number in this room
  *                 13  the event would make a number above L
  *                 0   none of these: the record is accepted
  *   answer / 256  the bytes written, at most ROOM_OUTPUT_BYTES; 0 where the record is refused
@@ -156,13 +162,13 @@ ROOM_CALL uint32_t room_report_write(uint8_t room, uint64_t joining, uint64_t le
  * accepted and does nothing: 0 bytes, and no word is touched. The record is only read.
  *
  * What is written is nothing, or one to three records of the same room end to end, to be sent in this order (room_next
- * of room_words.h takes them apart):
+ * of room_words.h takes them apart); this office is the row's own:
  *   a start notice, 53 43  to those of this office's own seats that are in its members
  *   a proposal, 50 52      to every office of its members (room_offices) but this one; there may be two
  *   a view, 56 57          to those of this office's own seats that are in its members; always the last
  * An office that keeps a file of high marks asks room_mark_before ahead of each. */
-ROOM_CALL uint32_t room_step(uint32_t *table, size_t words, const uint8_t *record, size_t length, uint8_t *out,
-                             size_t capacity);
+ROOM_CALL uint32_t room_step(uint8_t office, uint32_t *table, size_t words, const uint8_t *record, size_t length,
+                             uint8_t *out, size_t capacity);
 
 /* The number of a room's current view: before the first 0, or the mark that room_restart began at. 0 too where `words`
  * is not ROOM_TABLE_WORDS or the words are no table, as room_step answers 2, and where the room is above 7. The
@@ -298,6 +304,22 @@ ROOM_CALL uint64_t room_mark_before(uint32_t last, const uint8_t *rest, size_t l
  *   0  it passes both; what stands behind the mark is not looked at, so a room above 7 passes too
  * The bytes are only read. */
 ROOM_CALL uint8_t room_record_check(const uint8_t *bytes, size_t length);
+
+/* Reads a lone report or proposal of `length` bytes for an office. What it refuses, room_step refuses for that office
+ * by the same number, whatever the table and the output are: a broken record can be rejected before there is a table.
+ *   1   the office is above 15
+ *   4   the record has under two bytes, or its mark is neither 4E 45 (report) nor 50 52 (proposal)
+ *   5   its length is not that of its mark
+ *   20  its room is above 7
+ *   6   a proposal's sender is above 15 or is the office
+ *   7   its kind is not 1 or 2
+ *   8   its start number or proposal number is 0 or above L, or a used number is above L
+ *   9   its members hold no seat of the sender or no seat of the office
+ *   10  it has a used number that is not 0 for an office without a seat in the members
+ *   19  its used number for the sender is not below its proposal number
+ *   0   none of these: the record reads; whether it is accepted is for room_step to say, by the table
+ * The two sets of a report may be any. The bytes are only read. */
+ROOM_CALL uint8_t room_read(uint8_t office, const uint8_t *record, size_t length);
 
 /* The offices of a set of seats. Bit o of the answer is set when office o has at least one seat in the set; 0 for the
  * empty set. */

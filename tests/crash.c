@@ -237,7 +237,7 @@ static void send_answer(struct child *c, struct room *r, const uint8_t *out, siz
 
 static unsigned hand(struct child *c, struct room *r, const uint8_t *record, size_t length) {
     uint8_t out[ROOM_OUTPUT_BYTES];
-    uint32_t answer = room_step(c->table, ROOM_TABLE_WORDS, record, length, out, sizeof out);
+    uint32_t answer = room_step(c->server.office, c->table, ROOM_TABLE_WORDS, record, length, out, sizeof out);
     c->note.refused += room_refused(answer) == ROOM_REFUSED_CEILING;
     c->note.self_uses += room_refused(answer) == ROOM_REFUSED_SELF_USE;
     if (room_value(answer) > 0) {
@@ -503,7 +503,7 @@ static bool room_begins_at(uint32_t *table, uint8_t room, uint8_t office, uint32
     size_t length = room_notice_write(&n, expected, sizeof expected);
     length += room_proposal_write(&p, expected + length, sizeof expected - length);
     bool numbered = room_view_number(table, ROOM_TABLE_WORDS, room) == mark;
-    uint32_t answer = room_step(table, ROOM_TABLE_WORDS, report, reported, out, sizeof out);
+    uint32_t answer = room_step(office, table, ROOM_TABLE_WORDS, report, reported, out, sizeof out);
     return numbered && (mark == L ? answer == ROOM_REFUSED_CEILING
                                   : answer == 256 * length && memcmp(out, expected, length) == 0);
 }
@@ -591,8 +591,8 @@ static void judge_mark(struct run *run, uint32_t largest, uint8_t room) {
 /* Rounds that are the same in every run, of children that do nothing wrong. */
 static bool is_counted(const struct plan *plan) { return plan->wrong == NOTHING && plan->actions > 0; }
 
-/* A fresh office of the members, another than the sender, is handed the proposal: 19 comes before all that depends on
- * its state. */
+/* The proposal is read for an office of the members, another than the sender, which tells 19 without a table; and that
+ * office, fresh, is handed it. */
 static void judge_self_use(struct run *run, const uint8_t *proposal, uint32_t number) {
     uint32_t table[ROOM_TABLE_WORDS], used = room_get_number(proposal + 21 + 4 * run->server.office);
     uint8_t out[ROOM_OUTPUT_BYTES], other = 0;
@@ -600,9 +600,10 @@ static void judge_self_use(struct run *run, const uint8_t *proposal, uint32_t nu
         other++;
     }
     uint8_t made = room_fresh(other, table, ROOM_TABLE_WORDS);
+    uint8_t read = room_read(other, proposal, ROOM_PROPOSAL_BYTES);
     unsigned refusal =
-        room_refused(room_step(table, ROOM_TABLE_WORDS, proposal, ROOM_PROPOSAL_BYTES, out, sizeof out));
-    if (used >= number || made != 0 || (refusal != 0 && refusal != ROOM_REFUSED_UNREACHED)) {
+        room_refused(room_step(other, table, ROOM_TABLE_WORDS, proposal, ROOM_PROPOSAL_BYTES, out, sizeof out));
+    if (used >= number || made != 0 || read != 0 || (refusal != 0 && refusal != ROOM_REFUSED_UNREACHED)) {
         fault(run, SELF_USES, used, number);
     }
     seen.proposals += is_counted(run->plan);

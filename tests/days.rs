@@ -1,10 +1,11 @@
 // The worked days that document 01 does not star and the counts of those that it does, the reports that change
 // nothing, the proposals that claim to have used themselves, the edges of lengths, offices and rooms, the order of the
-// refusals, and where document 01 decides against Moshe, by the calls for C. A try is one call: its refusal, its
-// count, every byte of the output, every word of the rooms that the record is not of, and where it is refused or does
-// nothing every word of the table. What is expected is written from documents 01 and 02; unwritten bytes are 170, as
-// they were lent. Days are in room 0 where no room is named. Then a desk's own day and its refusals: a try is one
-// record heard, its answer and the 25 words of the desk after it. Worked sheets come last.
+// refusals, and where document 01 decides against Moshe, by the calls for C. A try is one call of the step: its
+// refusal, its count, every byte of the output, every word of the rooms that the record is not of, and where it is
+// refused or does nothing every word of the table; and beside it the reading call's number for the same record. What
+// is expected is written from documents 01 and 02; unwritten bytes are 170, as they were lent. Days are in room 0
+// where no room is named, and records are read for office 0 where no office is. Then a desk's own day and its
+// refusals: a try is one record heard, its answer and the 25 words of the desk after it. Worked sheets come last.
 #[path = "common/sheet_calls.rs"]
 mod sheet_calls;
 #[path = "common/worked_sheets.rs"]
@@ -13,8 +14,10 @@ mod worked_sheets;
 #[link(name = "room", kind = "static")]
 extern "C" {
     fn room_fresh(office: u8, table: *mut u32, words: usize) -> u8;
-    fn room_step(table: *mut u32, words: usize, record: *const u8, length: usize, out: *mut u8, capacity: usize)
-        -> u32;
+    fn room_read(office: u8, record: *const u8, length: usize) -> u8;
+    fn room_step(
+        office: u8, table: *mut u32, words: usize, record: *const u8, length: usize, out: *mut u8, capacity: usize,
+    ) -> u32;
     fn room_view_number(table: *const u32, words: usize, room: u8) -> u32;
     fn room_desk_fresh(seat: u8, desk: *mut u32, words: usize) -> u8;
     fn room_desk_hear(desk: *mut u32, words: usize, record: *const u8, length: usize) -> u8;
@@ -39,6 +42,8 @@ const PRESENT: usize = 6;
 const START: usize = 71;
 const NUMBER: usize = 72;
 const VIEW_NUMBER: usize = 73;
+const ACCEPTED_0: usize = 90;
+const ACCEPTED_1: usize = 91;
 const ACCEPTED_15: usize = 105;
 const STORED_NUMBER_15: usize = 393;
 
@@ -105,11 +110,21 @@ fn wrong(sender: u8, kind: u8, members: u64, start: u32, used: [u32; 3]) -> Vec<
 }
 
 // The answer of one call: refusal, count, and the output after it.
-fn step(table: &mut [u32], record: &[u8], capacity: usize) -> (u32, u32, Vec<u8>) {
+fn step(office: u8, table: &mut [u32], record: &[u8], capacity: usize) -> (u32, u32, Vec<u8>) {
     let mut out = vec![LENT_BYTE; capacity];
     let (words, length) = (table.len(), record.len());
-    let answer = unsafe { room_step(table.as_mut_ptr(), words, record.as_ptr(), length, out.as_mut_ptr(), capacity) };
+    let answer =
+        unsafe { room_step(office, table.as_mut_ptr(), words, record.as_ptr(), length, out.as_mut_ptr(), capacity) };
     (answer % 256, answer / 256, out)
+}
+
+fn read(office: u8, record: &[u8]) -> u32 {
+    unsafe { room_read(office, record.as_ptr(), record.len()) as u32 }
+}
+
+// What reading answers where the step answers a number, and 6 and 9 are for the office given.
+fn read_before(refusal: u32) -> u32 {
+    if [0, 2, 3, 11, 12, 13].contains(&refusal) { 0 } else { refusal }
 }
 
 fn made(office: u8, words: usize) -> (u8, Table) {
@@ -190,8 +205,12 @@ fn changed_in(room: usize, mut table: Table, place: usize, word: u32) -> Table {
     table
 }
 
-fn after(mut table: Table, record: Vec<u8>) -> Table {
-    let (refusal, ..) = step(&mut table, &record, CAPACITY);
+fn after(table: Table, record: Vec<u8>) -> Table {
+    after_for(0, table, record)
+}
+
+fn after_for(office: u8, mut table: Table, record: Vec<u8>) -> Table {
+    let (refusal, ..) = step(office, &mut table, &record, CAPACITY);
     assert_eq!(refusal, 0, "an event before a try is accepted");
     table
 }
@@ -233,30 +252,51 @@ impl Tally {
     }
 
     fn accepted(&mut self, name: &str, table: Table, record: Vec<u8>, written: Vec<u8>) {
+        self.accepted_for(0, name, table, record, written);
+    }
+
+    fn accepted_for(&mut self, office: u8, name: &str, table: Table, record: Vec<u8>, written: Vec<u8>) {
         let mut left = table.clone();
-        let (refusal, count, out) = step(&mut left, &record, CAPACITY);
+        let (refusal, count, out) = step(office, &mut left, &record, CAPACITY);
         let mut expected = written.clone();
         expected.resize(CAPACITY, LENT_BYTE);
         // the rows of the other rooms
         let others = (0..TABLE).filter(|at| at / WORDS != record[2] as usize).all(|at| left[at] == table[at]);
-        self.say(name, refusal == 0 && count as usize == written.len() && out == expected && others);
+        let read = read(office, &record) == 0;
+        self.say(name, refusal == 0 && count as usize == written.len() && out == expected && others && read);
     }
 
     // The number of bytes alone, as request 9 gives it.
     fn counts(&mut self, name: &str, mut table: Table, record: Vec<u8>, bytes: u32) {
-        let (refusal, count, _) = step(&mut table, &record, CAPACITY);
+        let (refusal, count, _) = step(0, &mut table, &record, CAPACITY);
         self.say(name, refusal == 0 && count == bytes);
     }
 
     // Every byte and every word stays as it was.
     fn unchanged(&mut self, name: &str, capacity: usize, table: Table, record: &[u8], refusal: u32) {
+        self.unchanged_for(0, name, capacity, table, record, [read_before(refusal), refusal]);
+    }
+
+    // For an office: what reading answers, and the step.
+    fn unchanged_for(&mut self, office: u8, name: &str, capacity: usize, table: Table, record: &[u8],
+        [first, refusal]: [u32; 2]) {
         let mut left = table.clone();
-        let (got, count, out) = step(&mut left, record, capacity);
-        self.say(name, got == refusal && count == 0 && out == vec![LENT_BYTE; capacity] && left == table);
+        let (got, count, out) = step(office, &mut left, record, capacity);
+        let stays = out == vec![LENT_BYTE; capacity] && left == table;
+        self.say(name, read(office, record) == first && got == refusal && count == 0 && stays);
     }
 
     fn refused(&mut self, name: &str, table: Table, record: &[u8], refusal: u32) {
         self.unchanged(name, CAPACITY, table, record, refusal);
+    }
+
+    fn refused_for(&mut self, office: u8, name: &str, table: Table, record: &[u8], refusal: u32) {
+        self.unchanged_for(office, name, CAPACITY, table, record, [read_before(refusal), refusal]);
+    }
+
+    // 6 or 9 of the row's own office: the record is read.
+    fn refused_by_row(&mut self, office: u8, name: &str, table: Table, record: &[u8], refusal: u32) {
+        self.unchanged_for(office, name, CAPACITY, table, record, [0, refusal]);
     }
 
     // Accepted, and nothing comes of it.
@@ -267,7 +307,7 @@ impl Tally {
     // One event at the office in its room: what it writes to its seats, each accepted by the desk, and the room's
     // words at the desk after each. The desk's other words stay.
     fn tells(&mut self, name: &str, at: &mut OfficeAndDesk, record: Vec<u8>, told: &[(Vec<u8>, [u32; 3])]) {
-        let (refusal, count, out) = step(&mut at.office, &in_room(at.room, record), CAPACITY);
+        let (refusal, count, out) = step(0, &mut at.office, &in_room(at.room, record), CAPACITY);
         let told: Vec<_> = told.iter().map(|(record, words)| (in_room(at.room, record.clone()), words)).collect();
         let mut good =
             refusal == 0 && to_seats(&out[..count as usize]).into_iter().eq(told.iter().map(|(record, _)| record));
@@ -354,16 +394,160 @@ fn rooms(t: &mut Tally) {
     }
 }
 
-// A row has its own office. Room 3 is office 1's here, the others are office 0's.
+// A row has its own office, and acts with it, whatever office a record is read for. Room 3 is office 1's here, the
+// others are office 0's.
 fn offices_of_rooms(t: &mut Tally) {
     let table = || changed_in(3, fresh(), OWN, 1);
-    t.accepted("room 3 of office 1, seat 0 joins: 0 bytes", table(), in_room(3, report(0x01, 0)), vec![]);
-    t.accepted("room 3 of office 1, seat 4 joins", table(), in_room(3, report(0x10, 0)),
-        [in_room(3, notice(1, 0x10)), in_room(3, view(2, 0x10, 0, 1))].concat());
-    t.refused("room 3 of office 1, its own proposal gets 6", table(), &in_room(3, p(FAST, 1, 1, 0, 0)), 6);
-    t.accepted("room 3 of office 1, office 0's proposal", table(), in_room(3, own(FAST, 1, 1, 0, 0)), vec![]);
+    let here = |record| in_room(3, record);
+    let told = || [here(notice(1, 0x10)), here(view(2, 0x10, 0, 1))].concat();
+    for office in [0, 1, 2, 15] {
+        t.accepted_for(office, &format!("room 3 of office 1, seat 0 joins, for office {office}: 0 bytes"), table(),
+            here(report(0x01, 0)), vec![]);
+        t.accepted_for(office, &format!("room 3 of office 1, seat 4 joins, for office {office}"), table(),
+            here(report(0x10, 0)), told());
+        t.accepted_for(office, &format!("room 2 beside it, seat 0 joins, for office {office}"), table(),
+            in_room(2, report(0x01, 0)), [in_room(2, notice(1, 0x01)), in_room(2, view(2, 0x01, 1, 0))].concat());
+    }
+    t.refused_for(1, "room 3 of office 1, its own proposal gets 6", table(), &here(p(FAST, 1, 1, 0, 0)), 6);
+    t.accepted_for(1, "room 3 of office 1, office 0's proposal", table(), here(own(FAST, 1, 1, 0, 0)), vec![]);
     t.accepted("room 2 beside it, office 1's proposal", table(), in_room(2, p(FAST, 1, 1, 0, 0)), vec![]);
     t.refused("room 2 beside it, office 0's proposal gets 6", table(), &in_room(2, own(FAST, 1, 1, 0, 0)), 6);
+}
+
+// A proposal of offices 0, 1 and 2 with seats in some of them, number 5.
+fn of(sender: u8, members: u64, used: [u32; 3]) -> Vec<u8> {
+    bytes(Proposal { sender, kind: FAST, members, start: 1, number: 5, used })
+}
+
+// Read for another office than the row's own: 6 and 9 come for the first, then for the second, behind 2 and 3.
+fn another_office(t: &mut Tally) {
+    let table = || changed_in(3, fresh(), OWN, 1);
+    let here = |record| in_room(3, record);
+    t.refused_by_row(0, "room 3 of office 1, its own proposal read for office 0 gets 6", table(),
+        &here(p(FAST, 1, 1, 0, 0)), 6);
+    t.refused("room 3 of office 1, office 0's proposal read for office 0 gets 6", table(),
+        &here(own(FAST, 1, 1, 0, 0)), 6);
+    t.refused_by_row(1, "room 2 of office 0, its own proposal read for office 1 gets 6", table(),
+        &in_room(2, own(FAST, 1, 1, 0, 0)), 6);
+    t.accepted_for(2, "office 0's proposal to offices 1 and 2, read for office 2", table(),
+        here(of(0, 0x111, [0; 3])), vec![]);
+    t.refused_for(3, "office 0's proposal to offices 1 and 2, read for office 3, gets 9", table(),
+        &here(of(0, 0x111, [0; 3])), 9);
+    t.refused_by_row(2, "office 0's proposal to office 2, read for office 2, gets 9 of the row", table(),
+        &here(of(0, 0x101, [0; 3])), 9);
+    t.refused_for(1, "office 0's proposal to office 2, read for office 1, gets 9", table(),
+        &here(of(0, 0x101, [0; 3])), 9);
+    t.refused_for(2, "office 2's own proposal read for office 2 gets 6", table(), &here(of(2, 0x111, [0; 3])), 6);
+    t.accepted_for(0, "office 2's proposal to offices 0 and 1, read for office 0", table(),
+        here(of(2, 0x111, [0; 3])), vec![]);
+    // what is accepted does what it does at the row's own office: the third proposal is its own
+    let waits = || after_for(2, after(table(), here(report(0x111, 0))), here(of(0, 0x111, [0; 3])));
+    let mut agreed = here(view(2, 0x111, 1, 1));
+    agreed[26] = 1;
+    for office in [0, 1] {
+        t.accepted_for(office, &format!("room 3 of office 1 agrees, office 2's proposal read for office {office}"),
+            waits(), here(of(2, 0x111, [0; 3])), agreed.clone());
+    }
+    t.refused_for(2, "and read for office 2, 6", waits(), &here(of(2, 0x111, [0; 3])), 6);
+    t.refused_for(3, "and read for office 3, 9", waits(), &here(of(2, 0x111, [0; 3])), 9);
+
+    // the own proposal of office 1, and one that has no seat of it; both are read
+    let (six, nine) = (here(of(1, 0x111, [0; 3])), here(of(0, 0x101, [0; 3])));
+    for (record, number) in [(&six, 6), (&nine, 9)] {
+        let last = [ACCEPTED_1, ACCEPTED_0][(number == 9) as usize];
+        let heard = || changed_in(3, table(), last, 5);
+        t.refused_by_row(2, &format!("{number} of the row"), table(), record, number);
+        t.refused_for(2, &format!("2 before {number} of the row, by another row"),
+            changed_in(0, heard(), NUMBER, L + 1), record, 2);
+        t.refused_for(2, &format!("2 before {number} of the row, by this row"),
+            changed_in(3, heard(), NUMBER, L + 1), record, 2);
+        t.unchanged_for(2, &format!("3 before {number} of the row"), 184, heard(), record, [0, 3]);
+        t.refused_by_row(2, &format!("{number} of the row before 11"), heard(), record, number);
+    }
+    t.accepted_for(2, "12 is not for the office given", table(), here(of(0, 0x111, [0, 0, 9])), vec![]);
+    t.refused_for(2, "12 is for the row's own office", table(), &here(of(0, 0x111, [0, 1, 0])), 12);
+    t.refused_by_row(2, "6 of the row before 12", table(), &here(of(1, 0x111, [0, 1, 0])), 6);
+    t.refused_for(2, "19 before 6 of the row", table(), &here(of(1, 0x111, [0, 5, 0])), 19);
+    t.refused_for(2, "10 before 9 of the row", table(), &here(of(0, 0x101, [0, 1, 0])), 10);
+    t.refused_for(2, "9 before 6 of the row and 9 of the row", table(), &here(of(1, 0x101, [0; 3])), 9);
+    t.refused_for(1, "9 before 6 of the row, read for office 1 in office 0's room 2", table(),
+        &in_room(2, of(0, 0x101, [0; 3])), 9);
+    // in mode none a proposal with the net view calls for a start number
+    let at_l = |net| changed_in(3, changed_in(3, table(), NET, net), START, L);
+    t.refused_for(2, "13 alone", at_l(0x111), &here(of(0, 0x111, [0; 3])), 13);
+    t.refused_by_row(2, "6 of the row before 13", at_l(0x111), &six, 6);
+    t.refused_by_row(2, "9 of the row before 13", at_l(0x101), &nine, 9);
+}
+
+// An office above 15 reads nothing, whatever the table's own office is.
+fn offices_above_15(t: &mut Tally) {
+    let joins = report(0x01, 0);
+    let sixteen: Table = (0..TABLE).map(|at| if at % WORDS == OWN { 16 } else { 0 }).collect();
+    t.refused("own office 16 in all rows, for office 0, gets 2", sixteen.clone(), &joins, 2);
+    for office in [16, 17, 128, 255] {
+        t.refused_for(office, &format!("own office 16 in all rows, for office {office}, gets 1"), sixteen.clone(),
+            &joins, 1);
+        t.refused_for(office, &format!("a fresh table, for office {office}, gets 1"), fresh(), &joins, 1);
+        t.refused_for(office, &format!("no words, for office {office}, get 1"), vec![], &joins, 1);
+        t.unchanged_for(office, &format!("no output, for office {office}, gets 1"), 0, fresh(), &joins, [1, 1]);
+        t.refused_for(office, &format!("a proposal, for office {office}, gets 1"), after_b(), &p(FAST, 1, 1, 0, 0), 1);
+        t.refused_for(office, &format!("no record, for office {office}, gets 1"), fresh(), &[], 1);
+    }
+    t.refused_for(16, "1 before 5", fresh(), b"PR\x08", 1);
+    t.refused_for(16, "1 before 20", fresh(), &in_room(8, report(0x01, 0)), 1);
+    t.refused_for(16, "1 before 6, sender 16", fresh(), &of(16, 0x11, [0; 3]), 1);
+    t.refused_for(16, "1 before 19", fresh(), &of(1, 0x11, [0, 5, 0]), 1);
+    let last = 1 << 60;
+    t.accepted_for(15, "office 15 reads", made(15, TABLE).1, report(last, 0), {
+        let mut view = view(2, last, 0, 0);
+        view[78] = 1;
+        [notice(1, last), view].concat()
+    });
+}
+
+// A record that is not read is answered by that number, though the table fails check 2, or the output is too short, or
+// both. One that is read is answered 2, then 3.
+fn bad_records(t: &mut Tally) {
+    let seats = |members, used| bytes(Proposal { sender: 1, kind: FAST, members, start: 1, number: 1, used });
+    let records = [
+        ("no byte", vec![], 4),
+        ("one byte", b"N".to_vec(), 4),
+        ("a start notice", notice(1, 0x01), 4),
+        ("a report of 18 bytes", report(0x01, 0)[..18].to_vec(), 5),
+        ("a proposal of 86 bytes", [p(FAST, 1, 1, 0, 0), vec![0]].concat(), 5),
+        ("a report of room 8", in_room(8, report(0x01, 0)), 20),
+        ("a proposal of room 255", in_room(255, p(FAST, 1, 1, 0, 0)), 20),
+        ("its own proposal", own(FAST, 1, 1, 0, 0), 6),
+        ("sender 16", seats_of(16), 6),
+        ("kind 0", p(0, 1, 1, 0, 0), 7),
+        ("start number 0", p(FAST, 0, 1, 0, 0), 8),
+        ("number L + 1", p(FAST, 1, L + 1, 0, 0), 8),
+        ("no seat of office 0", seats(0x10, [0; 3]), 9),
+        ("no seat of office 1", seats(0x01, [0; 3]), 9),
+        ("a used number of office 2", seats(0x11, [0, 0, 1]), 10),
+        ("its own number used", p(FAST, 1, 1, 0, 1), 19),
+    ];
+    for (what, record, number) in &records {
+        let number = *number;
+        t.refused(&format!("{what} gets {number}"), after_b(), record, number);
+        t.unchanged(&format!("{what}, an output of 184 bytes: {number}"), 184, after_b(), record, number);
+        t.unchanged(&format!("{what}, no output: {number}"), 0, after_b(), record, number);
+        t.refused(&format!("{what}, a number above L: {number}"), changed(after_b(), NUMBER, L + 1), record, number);
+        t.refused(&format!("{what}, an own office of 16 in room 7: {number}"), changed_in(7, after_b(), OWN, 16),
+            record, number);
+        t.refused(&format!("{what}, a word too few: {number}"), after_b()[..TOO_FEW].to_vec(), record, number);
+        t.unchanged(&format!("{what}, no words and no output: {number}"), 0, vec![], record, number);
+    }
+    for (what, record) in [("a report", report(0x100, 0)), ("a proposal", p(FAST, 1, 1, 0, 0))] {
+        t.unchanged(&format!("{what}, an output of 184 bytes: 3"), 184, after_b(), &record, 3);
+        t.refused(&format!("{what}, a number above L: 2"), changed(after_b(), NUMBER, L + 1), &record, 2);
+        t.unchanged(&format!("{what}, both: 2"), 184, changed(after_b(), NUMBER, L + 1), &record, 2);
+        t.unchanged(&format!("{what}, no words and no output: 2"), 0, vec![], &record, 2);
+    }
+}
+
+fn seats_of(sender: u8) -> Vec<u8> {
+    bytes(Proposal { sender, kind: FAST, members: u64::MAX, start: 1, number: 1, used: [0; 3] })
 }
 
 // 20, and its place in the order.
@@ -375,9 +559,9 @@ fn rooms_above_7(t: &mut Tally) {
     }
     t.accepted("a report of room 7 is accepted", fresh(), in_room(7, report(0x10, 0)), vec![]);
     let above = |record| in_room(8, record);
-    t.refused("2 before 20", with(OWN, 16), &above(report(0x01, 0)), 2);
-    t.refused("2 before 20, in the last row", changed_in(7, fresh(), NUMBER, L + 1), &above(report(0x01, 0)), 2);
-    t.unchanged("3 before 20", 184, fresh(), &above(report(0x01, 0)), 3);
+    t.refused("20 before 2", with(OWN, 16), &above(report(0x01, 0)), 20);
+    t.refused("20 before 2, in the last row", changed_in(7, fresh(), NUMBER, L + 1), &above(report(0x01, 0)), 20);
+    t.unchanged("20 before 3", 184, fresh(), &above(report(0x01, 0)), 20);
     t.refused("4 before 20", fresh(), &above(notice(1, 0x01)), 4);
     t.refused("5 before 20, a byte too few", fresh(), &above(report(0x01, 0))[..18], 5);
     t.refused("5 before 20, a byte too many", fresh(), &[above(report(0x01, 0)), vec![0]].concat(), 5);
@@ -467,7 +651,7 @@ fn repeats(t: &mut Tally) {
     t.does_nothing("words behind an empty slot stay", changed(after_b(), STORED_NUMBER_15, L + 1), report(0x10, 0));
 }
 
-// A repeat does not meet 13, and what is heard beside it does. 2, 3, 4 and 5 come first.
+// A repeat does not meet 13, and what is heard beside it does. 4, 5, 2 and 3 come first.
 fn repeats_and_refusals(t: &mut Tally) {
     t.accepted("numbers up to L", after(fresh(), p(SLOW, 1, L - 2, 0, 0)), report(0x11, 0),
         [notice(1, 0x11), own(FAST, 1, L - 1, 0, 0), own(SLOW, 1, L, 0, 0)].concat());
@@ -554,21 +738,33 @@ fn limits(t: &mut Tally) {
     t.accepted("after A, a number of L for other members", after_a(), p(SLOW, L, L, 0, 0), vec![]);
 }
 
-// Each input is wrong in all that comes after the number it gets.
+// Each input is wrong in all that comes after the number it gets, as far as that can be.
 fn order(t: &mut Tally) {
-    t.unchanged("2 before 3 and 4", 1, with(OWN, 16), &[], 2);
-    t.unchanged("3 before 4", 1, fresh(), b"??", 3);
-    t.refused("4 before 5", fresh(), b"??", 4);
-    t.refused("5 before 20", fresh(), b"PR\x08\x10\x00", 5);
     let heard = || after(after_b(), p(FAST, 1, L, 0, 0));
-    t.refused("20 before 6", heard(), &in_room(8, wrong(0, 0, 0x10, 0, [L, L, L + 1])), 20);
-    t.refused("6 before 7", heard(), &wrong(0, 0, 0x10, 0, [L, L, L + 1]), 6);
-    t.refused("7 before 8", heard(), &wrong(1, 0, 0x01, 0, [9, L, L + 1]), 7);
-    t.refused("8 before 9", heard(), &wrong(1, SLOW, 0x01, 0, [9, L, L + 1]), 8);
-    t.refused("8 for a used number above L", heard(), &wrong(1, SLOW, 0x01, 1, [9, L, L + 1]), 8);
-    t.refused("9 before 10", heard(), &wrong(1, SLOW, 0x01, 1, [9, L, 1]), 9);
-    t.refused("10 before 19", heard(), &wrong(1, SLOW, 0x11, 1, [9, L, 1]), 10);
-    t.refused("19 before 11", heard(), &wrong(1, SLOW, 0x11, 1, [9, L, 0]), 19);
+    let bad = || changed(heard(), VIEW_NUMBER, L + 1);
+    t.unchanged_for(16, "1 before 4, 2 and 3", 1, bad(), &[], [1, 1]);
+    t.unchanged("4 before 5, 2 and 3", 1, bad(), b"??", 4);
+    t.unchanged("5 before 20, 2 and 3", 1, bad(), b"PR\x08\x10\x00", 5);
+    t.unchanged("20 before 6", 1, bad(), &in_room(8, wrong(0, 0, 0x10, 0, [L, L, L + 1])), 20);
+    t.unchanged("6 before 7", 1, bad(), &wrong(0, 0, 0x10, 0, [L, L, L + 1]), 6);
+    t.unchanged("7 before 8", 1, bad(), &wrong(1, 0, 0x01, 0, [9, L, L + 1]), 7);
+    t.unchanged("8 before 9", 1, bad(), &wrong(1, SLOW, 0x01, 0, [9, L, L + 1]), 8);
+    t.unchanged("8 for a used number above L", 1, bad(), &wrong(1, SLOW, 0x01, 1, [9, L, L + 1]), 8);
+    t.unchanged("9 before 10", 1, bad(), &wrong(1, SLOW, 0x01, 1, [9, L, 1]), 9);
+    t.unchanged("10 before 19", 1, bad(), &wrong(1, SLOW, 0x11, 1, [9, L, 1]), 10);
+    t.unchanged("19 before 2", 1, bad(), &wrong(1, SLOW, 0x11, 1, [9, L, 0]), 19);
+    t.unchanged("19 before 3", 1, heard(), &wrong(1, SLOW, 0x11, 1, [9, L, 0]), 19);
+    // read for office 2: the own proposal of office 0, whose row this is, and one that has no seat of it
+    let (six, nine) = (wrong(0, SLOW, 0x111, 1, [9, 0, 0]), wrong(1, SLOW, 0x110, 1, [0, L - 1, 0]));
+    let used = |table| changed(table, ACCEPTED_0, L);
+    t.unchanged_for(2, "2 before 3 and 6 of the row", 1, used(bad()), &six, [0, 2]);
+    t.unchanged_for(2, "2 before 3 and 9 of the row", 1, bad(), &nine, [0, 2]);
+    t.unchanged_for(2, "3 before 6 of the row", 1, used(heard()), &six, [0, 3]);
+    t.unchanged_for(2, "3 before 9 of the row", 1, heard(), &nine, [0, 3]);
+    t.refused_by_row(2, "6 of the row before 11 and 12", used(heard()), &six, 6);
+    t.refused_by_row(2, "9 of the row before 11", heard(), &nine, 9);
+    t.unchanged("2 before 3 and 11", 1, bad(), &wrong(1, SLOW, 0x11, 1, [9, L - 1, 0]), 2);
+    t.unchanged("3 before 11", 1, heard(), &wrong(1, SLOW, 0x11, 1, [9, L - 1, 0]), 3);
     t.refused("11 before 12", heard(), &wrong(1, SLOW, 0x11, 1, [9, L - 1, 0]), 11);
     // a fast proposal with start number L makes view L + 1
     t.refused("12 before 13", after_b(), &wrong(1, FAST, 0x11, L, [9, L - 1, 0]), 12);
@@ -609,8 +805,9 @@ fn no_self_uses(t: &mut Tally) {
     t.refused("office 1, the number for itself", after_b(), &of_three(1, [0, 1, 0]), 19);
     t.accepted("office 2, the number for office 1", after_b(), of_three(2, [0, 1, 0]), vec![]);
     t.refused("office 2, the number for itself", after_b(), &of_three(2, [0, 0, 1]), 19);
-    t.refused("at office 1: office 0, the number for itself", made(1, TABLE).1, &own(FAST, 1, 1, 1, 0), 19);
-    t.refused("at office 1: office 0, the number for office 1: 12", made(1, TABLE).1, &own(FAST, 1, 1, 0, 1), 12);
+    t.refused_for(1, "at office 1: office 0, the number for itself", made(1, TABLE).1, &own(FAST, 1, 1, 1, 0), 19);
+    t.refused_for(1, "at office 1: office 0, the number for office 1: 12", made(1, TABLE).1,
+        &own(FAST, 1, 1, 0, 1), 12);
     // the used number for office 15 is the last of the record
     let members = 1 << 60 | 1;
     let mut of_last = bytes(Proposal { sender: 15, kind: FAST, members, start: 1, number: 7, used: [0; 3] });
@@ -620,15 +817,15 @@ fn no_self_uses(t: &mut Tally) {
     t.refused("office 15, the number for itself", fresh(), &of_last, 19);
     let members = 1 << 60 | 0x10;
     let to_last = |used| bytes(Proposal { sender: 1, kind: FAST, members, start: 1, number: 7, used });
-    t.accepted("at office 15: office 1, just below its number", made(15, TABLE).1, to_last([0, 6, 0]), vec![]);
-    t.refused("at office 15: office 1, its number", made(15, TABLE).1, &to_last([0, 7, 0]), 19);
+    t.accepted_for(15, "at office 15: office 1, just below its number", made(15, TABLE).1, to_last([0, 6, 0]), vec![]);
+    t.refused_for(15, "at office 15: office 1, its number", made(15, TABLE).1, &to_last([0, 7, 0]), 19);
 }
 
 // Two reasons at once, and no more.
 fn self_uses_in_order(t: &mut Tally) {
     let seats = |members, used| bytes(Proposal { sender: 1, kind: FAST, members, start: 1, number: 1, used });
-    t.refused("2 before 19", changed(after_b(), NUMBER, L + 1), &p(FAST, 1, 1, 0, 1), 2);
-    t.unchanged("3 before 19", 184, after_b(), &p(FAST, 1, 1, 0, 1), 3);
+    t.refused("19 before 2", changed(after_b(), NUMBER, L + 1), &p(FAST, 1, 1, 0, 1), 19);
+    t.unchanged("19 before 3", 184, after_b(), &p(FAST, 1, 1, 0, 1), 19);
     t.refused("5 before 19", after_b(), &[p(FAST, 1, 1, 0, 1), vec![0]].concat(), 5);
     t.refused("6 before 19", after_b(), &own(FAST, 1, 1, 1, 0), 6);
     t.refused("7 before 19", after_b(), &p(3, 1, 1, 0, 1), 7);
@@ -812,6 +1009,9 @@ fn main() {
     counts(&mut tally);
     rooms(&mut tally);
     offices_of_rooms(&mut tally);
+    another_office(&mut tally);
+    offices_above_15(&mut tally);
+    bad_records(&mut tally);
     rooms_above_7(&mut tally);
     tables(&mut tally);
     days(&mut tally);

@@ -5,6 +5,7 @@
 #   places     the words of a desk and the room of a record are where docs/LAYOUT.md has them
 #   compiling  room.h, room_words.h and both, as C and as C++ with all warnings as errors, with and without attributes
 #   warnings   of every call: a NULL in place of each pointer, and an answer that nobody looks at, are warned of
+#   order      room_read answers in the order of change request 10, and room_step in that of reading, then acting
 #   numbers    each number that has landed has a name in the enum, a text, a row of docs/EMBEDDING.md that begins
 #              '| N |', and a line of vectors/*.txt whose third field it is
 #   words      tests/words.c, as C and as C++, under the sanitizers where there are such
@@ -184,13 +185,23 @@ echo '}' | tee -a "$scratch/right" "$scratch/unused" >>"$scratch/null"
 
 # warned FILE WARNING: how many lines of it the compiler warns of in this way, each as an error
 warned() { compiles c c11 <"$1" 2>&1 | sed -nE "s/^<stdin>:([0-9]+):.*\[-Werror=$2\].*/\1/p" | sort -u | wc -l; }
-holds 'some calls are found' [ "$count" -ge 15 ]
+holds 'some calls are found' [ "$count" -ge 16 ]
 holds 'every call with what it asks for' compiles c c11 <"$scratch/right"
 holds "an answer that nobody looks at, $count calls" [ "$(warned "$scratch/unused" unused-result)" = "$count" ]
 holds "NULL for each of $pointers pointers" [ "$(warned "$scratch/null" nonnull)" = "$pointers" ]
 refuses() { ! compiles c c11 2>"$scratch/refused"; }
 holds 'such a program is refused' refuses <"$scratch/unused"
 holds 'and the other' refuses <"$scratch/null"
+
+# answers CALL: the numbers that stand at the head of a line in the comment of a call, in their order
+answers() {
+    awk -v call=" $1(" '/^\/\*/ { row = "" }
+        match($0, /^ \* +(answer % 256 +)?[0-9]+  +[^ ]/) { sub(/^ \* +(answer % 256 +)?/, ""); row = row $1 " " }
+        /^ROOM_CALL / && index($0, call) { print row }' include/room.h
+}
+reading='1 4 5 20 6 7 8 9 10 19 '
+holds 'the order of room_read' [ "$(answers room_read)" = "${reading}0 " ]
+holds 'the order of room_step' [ "$(answers room_step)" = "${reading}2 3 6 9 11 12 13 0 " ]
 
 # The numbers.
 vectors=(vectors/*.txt)

@@ -1,8 +1,8 @@
 // A room alone decides its answers: tables that pass check 2 and agree on one room, the other seven changed at will,
-// answer its records alike. By the calls for C beside each other; no answer is expected from a model here, which only
-// makes the inputs. Each case passes when all tables of all its inputs agree: on the answer, on every byte, on the
-// room's row after it, on its view number and on whom it waits for; and when in each table the other seven rows stay
-// word for word.
+// answer its records alike, whatever office they are read for. By the calls for C beside each other; no answer is
+// expected from a model here, which only makes the inputs. Each case passes when all tables of all its inputs agree:
+// on the answer, on every byte, on the room's row after it, on its view number and on whom it waits for; and when in
+// each table the other seven rows stay word for word.
 #[allow(dead_code)]
 #[path = "common/inputs.rs"]
 mod inputs;
@@ -32,8 +32,9 @@ use rows::place;
 
 #[link(name = "room", kind = "static")]
 extern "C" {
-    fn room_step(table: *mut u32, words: usize, record: *const u8, length: usize, out: *mut u8, capacity: usize)
-        -> u32;
+    fn room_step(
+        office: u8, table: *mut u32, words: usize, record: *const u8, length: usize, out: *mut u8, capacity: usize,
+    ) -> u32;
     fn room_view_number(table: *const u32, words: usize, room: u8) -> u32;
     fn room_waiting_for(table: *const u32, words: usize, room: u8) -> u32;
 }
@@ -54,6 +55,9 @@ struct Reached {
     kinds: [[u64; 2]; KINDS],
     // others with another own office, by the room of the record
     offices: [u64; ROOMS],
+    // by room, for another office than the row's own: accepted and refused, and the answers of an office above 15
+    given: [[u64; 2]; ROOMS],
+    above: [u64; 21],
 }
 
 type Tally = tally::Tally<Reached>;
@@ -68,10 +72,11 @@ struct Shown {
     asked: [u32; 4],
 }
 
-fn step(table: &mut [u32], record: &[u8]) -> (u32, Vec<u8>) {
+fn step(office: u8, table: &mut [u32], record: &[u8]) -> (u32, Vec<u8>) {
     let mut out = vec![BYTE; CAPACITY + 8];
+    let (words, length, capacity) = (table.len(), record.len(), out.len());
     let answer = unsafe {
-        room_step(table.as_mut_ptr(), table.len(), record.as_ptr(), record.len(), out.as_mut_ptr(), CAPACITY + 8)
+        room_step(office, table.as_mut_ptr(), words, record.as_ptr(), length, out.as_mut_ptr(), capacity)
     };
     (answer, out)
 }
@@ -81,11 +86,11 @@ fn questions(table: &[u32], room: u8) -> [u32; 2] {
     unsafe { [room_view_number(words, length, room), room_waiting_for(words, length, room)] }
 }
 
-// One record on one table; none where a word of another room was touched.
-fn shown(table: &mut [u32], record: &[u8]) -> Option<Shown> {
+// One record for an office on one table; none where a word of another room was touched.
+fn shown(office: u8, table: &mut [u32], record: &[u8]) -> Option<Shown> {
     let (room, before) = (room_of(record), table.to_vec());
     let first = questions(table, room);
-    let (answer, out) = step(table, record);
+    let (answer, out) = step(office, table, record);
     let second = questions(table, room);
     let own = place(room as usize);
     let stays = table[..own.start] == before[..own.start] && table[own.end..] == before[own.end..];
@@ -135,27 +140,40 @@ fn some_others(random: &mut Random, kind: usize, of_play: &[u32]) -> Vec<u32> {
     all.iter().flat_map(|&kind| some_row(random, kind)).collect()
 }
 
-// A room and its row, one record, and tables that have this row: with the other rows of each kind.
+// A room and its row, one record for an office, and tables that have this row: with the other rows of each kind.
 fn one_event(t: &mut Tally, random: &mut Random, row: &[u32], record: &[u8], of_play: &[u32]) {
     let room = room_of(record);
+    let office = some_office(random, row[rows::OWN] as u8);
     let mut first: Option<Option<Shown>> = None;
     for kind in 0..KINDS {
         let mut table = some_others(random, kind, of_play);
         table[place(room as usize)].copy_from_slice(row);
         let apart = (0..ROOMS).any(|k| table[place(k)][rows::OWN] != row[rows::OWN]);
         t.reached.offices[room as usize] += apart as u64;
-        let got = shown(&mut table, record);
+        let got = shown(office, &mut table, record);
         if let Some(s) = &got {
-            t.reached.kinds[kind][(s.answer % 256 != 0) as usize] += 1;
-            count(&mut t.reached, room, s.answer);
+            let refused = (s.answer % 256 != 0) as usize;
+            t.reached.kinds[kind][refused] += 1;
+            match office {
+                16.. => t.reached.above[(s.answer % 256).min(20) as usize] += 1,
+                office if office as u32 != row[rows::OWN] => t.reached.given[room as usize][refused] += 1,
+                _ => count(&mut t.reached, room, s.answer),
+            }
         }
         let same = got.is_some() && first.as_ref().is_none_or(|first| *first == got);
         t.compared(same, || {
             let touched = if got.is_none() { "another row was touched" } else { "not as with other rows" };
-            format!("room {room}, record {:02x?}, other rows by {kind}: {touched}", &record[..record.len().min(20)])
+            let head = &record[..record.len().min(20)];
+            format!("office {office}, room {room}, record {head:02x?}, other rows by {kind}: {touched}")
         });
         first.get_or_insert(got);
     }
+}
+
+// Mostly the row's own office, now and then any other, also above 15.
+fn some_office(random: &mut Random, own: u8) -> u8 {
+    let (office, any) = (random.below(16) as u8, random.next() as u8);
+    some(random, &[own, own, own, own, own, own, own, own, own, office, office, any])
 }
 
 fn count(reached: &mut Reached, room: u8, answer: u32) {
@@ -197,7 +215,9 @@ fn one_event_each(t: &mut Tally) {
                     let record = some_record(&mut r, room, from, record);
                     one_event(t, &mut r, from, &record, &of_play);
                 }
-                rows::step(&mut row, record, CAPACITY, &mut out);
+                if let Ok(event) = model::read(own as u8, record) {
+                    rows::act(&mut row, &event, &mut out);
+                }
             }
         }
     });
@@ -209,7 +229,7 @@ fn a_table(random: &mut Random) -> Vec<u32> {
     let (own, records) = a_play_in(random, &rooms, 40);
     let (mut table, mut out) = (rows::fresh_table(own), Vec::new());
     for record in &records {
-        rows::step_table(&mut table, record, CAPACITY, &mut out);
+        rows::step_table(own as u8, &mut table, record, CAPACITY, &mut out);
     }
     table
 }
@@ -224,21 +244,23 @@ fn any_room(t: &mut Tally) {
             let (mut row, mut out) = (rows::fresh(own), Vec::new());
             for record in records.iter().filter(|record| room_of(record) == 0) {
                 let record = if r.below(3) == 0 { some_record(&mut r, 0, &row, record) } else { record.clone() };
-                let mut first: Option<Shown> = None;
+                let (mut first, office): (Option<Shown>, _) = (None, some_office(&mut r, own as u8));
                 for room in 0..ROOMS as u8 {
                     let kind = r.below(ROWS.len() + 1);
                     let mut table = some_others(&mut r, kind, &[]);
                     table[place(room as usize)].copy_from_slice(&row);
                     let mut there = record.clone();
                     there[2] = room;
-                    let got = shown(&mut table, &there).and_then(|s| in_room_0(room, s));
+                    let got = shown(office, &mut table, &there).and_then(|s| in_room_0(room, s));
                     let same = got.is_some() && (first.is_none() || got == first);
                     t.compared(same, || format!("room {room} is not as room 0, record {:02x?}", &record[..19]));
                     if first.is_none() {
                         first = got;
                     }
                 }
-                rows::step(&mut row, &record, CAPACITY, &mut out);
+                if let Ok(event) = model::read(own as u8, &record) {
+                    rows::act(&mut row, &event, &mut out);
+                }
             }
         }
     });
@@ -278,13 +300,13 @@ fn whole_runs(t: &mut Tally) {
             }).collect();
             let seven: Vec<Vec<u32>> = alone.clone();
             for record in &records {
-                let Some(own) = alone.get_mut(room_of(record) as usize) else {
+                let Some(by_itself) = alone.get_mut(room_of(record) as usize) else {
                     let before = all.clone();
-                    let refused = step(&mut all, record) == (20, vec![BYTE; CAPACITY + 8]) && all == before;
+                    let refused = step(own as u8, &mut all, record) == (20, vec![BYTE; CAPACITY + 8]) && all == before;
                     t.compared(refused, || format!("room {} is refused by 20 and touches nothing", room_of(record)));
                     continue;
                 };
-                let (in_all, by_itself) = (shown(&mut all, record), shown(own, record));
+                let (in_all, by_itself) = (shown(own as u8, &mut all, record), shown(own as u8, by_itself, record));
                 let same = in_all.is_some() && in_all == by_itself;
                 if let Some(s) = &in_all {
                     count(&mut t.reached, room_of(record), s.answer);
@@ -324,6 +346,13 @@ fn main() {
     }
     let least = *t.reached.offices.iter().min().unwrap();
     t.often("other rows with another own office, of the room with fewest", least, 10_000);
+    for (at, what) in ["accepted", "refused"].into_iter().enumerate() {
+        let least = t.reached.given.iter().map(|n| n[at]).min().unwrap();
+        t.often(&format!("{what} for another office than the row's own, of the room with fewest"), least, 500);
+    }
+    let above = t.reached.above;
+    t.often("answered 1, for an office above 15", above[1], 5000);
+    t.verdicts.check("for an office above 15 all are answered 1", above.iter().sum::<u64>() == above[1]);
     println!("isolation: {} inputs compared", tally.inputs);
     tally.verdicts.end();
 }

@@ -617,24 +617,31 @@ fn model_on_worked_days() -> bool {
     all_days().into_iter().all(|(records, refusal, written)| {
         let mut table = Table::fresh(0);
         let mut out = Vec::new();
-        let answers: Vec<u8> = records.iter().map(|record| table.step(record, CAPACITY, &mut out)).collect();
+        let answers: Vec<u8> = records.iter().map(|record| table.step(0, record, CAPACITY, &mut out)).collect();
         *answers.last().unwrap() == refusal && out == written
     })
 }
 
-// Checks 2 and 3, which no input of the program reaches.
+// Checks 2 and 3, which no input of the program reaches: behind all that reading answers.
 fn model_on_checks_2_and_3() -> bool {
     let (record, mut out) = (report(0x01, 0), Vec::new());
     let mut above = [Office::fresh(16), Office::fresh(0), Office::fresh(0)];
     above[1].accepted[15] = L + 1;
     above[2].stored[7] = Some(Proposal { sender: 7, kind: FAST, members: 0, start: L + 1, number: 0, used: [0; 16] });
-    let mut step = |table: &mut Table, record: &[u8], capacity| table.step(record, capacity, &mut out);
+    let mut step = |office, table: &mut Table, record: &[u8], capacity| table.step(office, record, capacity, &mut out);
     (0..3 * ROOMS).all(|k| {
         let mut table = Table::fresh(0);
         table.rooms[k / 3] = above[k % 3];
-        step(&mut table, &record, 0) == 2
-    }) && step(&mut Table::fresh(15), &[], CAPACITY - 1) == 3
-        && step(&mut Table::fresh(15), &record, CAPACITY) == 0
+        step(0, &mut table, &record, 0) == 2
+            && step(16, &mut table, &record, 0) == 1
+            && step(0, &mut table, &[], 0) == 4
+            && step(0, &mut table, &record[..18], 0) == 5
+            && step(0, &mut table, &in_room(8, record.clone()), 0) == 20
+            && step(0, &mut table, &own(FAST, 1, 1, 0, 0), 0) == 6
+            && step(0, &mut table, &p(FAST, 1, 1, 0, 1), 0) == 19
+    }) && step(15, &mut Table::fresh(15), &[], CAPACITY - 1) == 4
+        && step(15, &mut Table::fresh(15), &record, CAPACITY - 1) == 3
+        && step(15, &mut Table::fresh(15), &record, CAPACITY) == 0
 }
 
 fn long_plays(t: &mut Tests) {

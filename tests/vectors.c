@@ -61,10 +61,21 @@ static void put(struct answer *a, uint64_t number, size_t bytes) {
 /* The number in the first column; one for an input without an office is above 15 too. */
 static uint32_t number(const char *who) { return strcmp(who, "-") == 0 ? 16 : (uint32_t)strtoul(who, NULL, 10); }
 
-static void step(struct answer *a, size_t words, struct bytes in, size_t capacity) {
-    uint32_t answer = room_step(table, words, in.at, in.length, a->bytes, capacity);
+/* Whether a refusal is one that only the reading of a record gives: 6 and 9 may come of a row too. */
+static int is_of_reading(unsigned refusal) {
+    return refusal == 1 || refusal == 4 || refusal == 5 || refusal == 20 || refusal == 7 || refusal == 8 ||
+           refusal == 10 || refusal == 19;
+}
+
+/* What room_read refuses, room_step refuses by the same number, and no other record by a number of reading. */
+static void step(struct answer *a, uint8_t office, size_t words, struct bytes in, size_t capacity) {
+    uint8_t read = room_read(office, in.at, in.length);
+    uint32_t answer = room_step(office, table, words, in.at, in.length, a->bytes, capacity);
     a->refusal = answer % 256;
     a->length = answer / 256;
+    if (read != 0 ? a->refusal != read : is_of_reading(a->refusal)) {
+        stop("room_step and room_read differ");
+    }
 }
 
 static void office(struct answer *a, const char *who, struct bytes in) {
@@ -72,7 +83,7 @@ static void office(struct answer *a, const char *who, struct bytes in) {
         a->refusal = room_fresh((uint8_t)number(who), table, ROOM_TABLE_WORDS);
     }
     if (a->refusal == 0) {
-        step(a, ROOM_TABLE_WORDS, in, MOST);
+        step(a, (uint8_t)number(who), ROOM_TABLE_WORDS, in, MOST);
     }
 }
 
@@ -127,7 +138,12 @@ static void leave(struct answer *a, const char *who, struct bytes in) {
     }
 }
 
+static void reading(struct answer *a, const char *who, struct bytes in) {
+    a->refusal = room_read((uint8_t)number(who), in.at, in.length);
+}
+
 static void lent(struct answer *a, char *who, struct bytes in) {
+    uint8_t served = 0;
     size_t words = ROOM_TABLE_WORDS, capacity = MOST;
     unsigned long place = 0;
     char *rest = NULL;
@@ -136,7 +152,9 @@ static void lent(struct answer *a, char *who, struct bytes in) {
         stop("room_fresh makes no office 0");
     }
     for (char *part = strtok_r(who, ",", &rest); part != NULL; part = strtok_r(NULL, ",", &rest)) {
-        if (strncmp(part, "capacity=", 9) == 0) {
+        if (strncmp(part, "office=", 7) == 0) {
+            served = (uint8_t)number(part + 7);
+        } else if (strncmp(part, "capacity=", 9) == 0) {
             capacity = strtoul(part + 9, NULL, 10);
         } else if (strncmp(part, "words=", 6) == 0) {
             words += (size_t)strtol(part + 6, NULL, 10);
@@ -149,7 +167,7 @@ static void lent(struct answer *a, char *who, struct bytes in) {
     if (words > sizeof table / sizeof *table || capacity > MOST) {
         stop("more is lent than there is");
     }
-    step(a, words, in, capacity);
+    step(a, served, words, in, capacity);
 }
 
 /* Hands a line to what the file is about. */
@@ -169,6 +187,8 @@ static void hand(struct answer *a, const char *name, char *who, char *in) {
         file(a, who, first);
     } else if (strcmp(name, "leave.txt") == 0) {
         leave(a, who, first);
+    } else if (strcmp(name, "read.txt") == 0) {
+        reading(a, who, first);
     } else if (strcmp(name, "lent.txt") == 0) {
         lent(a, who, first);
     } else {

@@ -132,7 +132,7 @@ fn along(random: &mut Random, plays: usize, records: usize, mut each: impl FnMut
         let (own, records) = a_play(random, records);
         let (mut table, mut out) = (rows::fresh_table(own), Vec::new());
         for record in &records {
-            rows::step_table(&mut table, record, CAPACITY, &mut out);
+            rows::step_table(own as u8, &mut table, record, CAPACITY, &mut out);
             each(random, &table, own, room_of(record));
         }
     }

@@ -23,7 +23,7 @@ impl Day {
         let (pool, rooms) = (some_pool(random, office), rooms(random));
         let (mut table, mut out) = (Table::fresh(office), Vec::new());
         let event = |record: Vec<u8>| {
-            table.step(&record, CAPACITY, &mut out);
+            table.step(office as u8, &record, CAPACITY, &mut out);
             // a room above 7 has no state, and nothing is written
             let room = room_of(&record) as usize % ROOMS;
             Event { room, net: table.rooms[room].net, records: to_seats(&out) }

@@ -1,14 +1,20 @@
-// The office of document 01, its step and its program, with the eight rooms of change request 9, written from the two
-// documents. Numbers are those of document 01, and the parts stand in its order. The room travels beside the rest:
+// The office of document 01, its two calls and its program, with the eight rooms of change request 9 and reading apart
+// from acting of change request 10, written from the two documents. Numbers are those of document 01, and the parts
+// stand in its order. The room travels beside the rest:
 //   report, notice, Proposal::bytes and View::bytes   a record's bytes, the room given first; any byte may be one
 //   room_of, number, set, Proposal::read              parts of a record's bytes; what is read has no room
 //   mark_length, written_length                       lengths by a mark
-//   form_refusal                                      what no state decides: 3, 4, 5 and 20
+//   Event                                             what a record says: its room, and a report or a proposal
+//   read                                              the reading call for an office: 1, 4, 5, 20, 6 to 10 and 19, or
+//                                                     the event
 //   Office                                            the state of one room at one office
-//   Office::step                                      one event on it, where nothing else is: 2 is of this state alone
+//   Office::act                                       one event on it: 20, 6 to 10 and 19 for its own office, then 11,
+//                                                     12 and 13
+//   Office::makes_above                               what 13 asks, whatever else is wrong with the event
 //   Office::waiting_for                               change request 1 of this state, 2 of this state alone
 //   Table                                             eight states, each with its own office number
-//   Table::step                                       one event: 2 is of all eight, the record's room alone changes
+//   Table::act                                        the acting call: 2 of all eight, 3, then the event's room acts
+//   Table::step                                       both in turn: a record read for an office, then acted on
 //   Table::waiting_for                                2 of all eight, then 20, then the answer of that room
 //   program                                           the program: the records of an input, a line for each
 use std::io::Read;
@@ -147,19 +153,70 @@ pub fn written_length(rest: &[u8]) -> usize {
     mark_length(rest).unwrap_or(if rest[0] == b'S' { NOTICE } else { VIEW })
 }
 
-// The reasons to refuse that no state decides: 3, 4, 5 and change request 9's 20.
-pub fn form_refusal(record: &[u8], capacity: usize) -> u8 {
-    if capacity < CAPACITY {
-        return 3;
+// Events
+
+#[derive(Clone, Copy, PartialEq)]
+pub enum What {
+    Report { joining: u64, leaving: u64 },
+    Proposal(Proposal),
+}
+
+// What a record says. Any byte may be its room.
+#[derive(Clone, Copy, PartialEq)]
+pub struct Event {
+    pub room: u8,
+    pub what: What,
+}
+
+impl Event {
+    // Of a record that has its mark's length.
+    pub fn of(record: &[u8]) -> Event {
+        let what = match record.len() {
+            REPORT => What::Report { joining: set(record, 3), leaving: set(record, 11) },
+            _ => What::Proposal(Proposal::read(record)),
+        };
+        Event { room: room_of(record), what }
     }
-    let Some(length) = mark_length(record) else { return 4 };
-    if record.len() != length {
-        5
-    } else if room_of(record) as usize >= ROOMS {
-        20
-    } else {
-        0
+}
+
+// A number, and whether that reason to refuse applies; it is asked only where none before it does.
+type Reason<'a> = (u8, &'a dyn Fn() -> bool);
+
+// The first in checking order that applies; 0 where none does.
+fn first(reasons: &[Reason]) -> u8 {
+    reasons.iter().find(|(_, applies)| applies()).map_or(0, |&(number, _)| number)
+}
+
+// The reading call.
+pub fn read(office: u8, record: &[u8]) -> Result<Event, u8> {
+    let length = mark_length(record);
+    let refusal =
+        first(&[(1, &|| office > 15), (4, &|| length.is_none()), (5, &|| length != Some(record.len()))]);
+    if refusal != 0 {
+        return Err(refusal);
     }
+    let event = Event::of(record);
+    match form_refusal(office as usize, &event) {
+        0 => Ok(event),
+        refusal => Err(refusal),
+    }
+}
+
+// What an office, by its number alone, says to an event: 20, 6 to 10 and 19. Both calls ask it.
+fn form_refusal(office: usize, event: &Event) -> u8 {
+    let above = || event.room as usize >= ROOMS;
+    let What::Proposal(p) = &event.what else { return first(&[(20, &above)]) };
+    let sender = p.sender as usize;
+    first(&[
+        (20, &above),
+        (6, &|| sender > 15 || sender == office),
+        (7, &|| p.kind != FAST && p.kind != SLOW),
+        (8, &|| p.start == 0 || p.start > L || p.number == 0 || p.number > L || p.used.iter().any(|&u| u > L)),
+        (9, &|| !has_seat(p.members, sender) || !has_seat(p.members, office)),
+        (10, &|| (0..16).any(|o| !has_seat(p.members, o) && p.used[o] != 0)),
+        // Change request 8.
+        (19, &|| p.used[sender] >= p.number),
+    ])
 }
 
 // State
@@ -209,61 +266,48 @@ impl Office {
         }
     }
 
-    // One event: the number of document 01. What is written stands in `out`; a refusal leaves the office as it was
-    // and `out` empty.
-    pub fn step(&mut self, record: &[u8], capacity: usize, out: &mut Vec<u8>) -> u8 {
+    // One event at this state: the number of document 01, where 2 and 3 do not apply. What is written carries the
+    // event's room and stands in `out`; a refusal leaves the office as it was and `out` empty.
+    pub fn act(&mut self, event: &Event, out: &mut Vec<u8>) -> u8 {
         out.clear();
-        if self.malformed() {
-            return 2;
-        }
-        match form_refusal(record, capacity) {
-            0 => self.act(record, out),
+        let refusal = match form_refusal(self.own, event) {
+            0 => self.late_refusal(event),
             refusal => refusal,
-        }
-    }
-
-    // A record that passes checks 2 to 5 and 20: 6 to 13 and 19, or 0. What is written carries its room.
-    fn act(&mut self, record: &[u8], out: &mut Vec<u8>) -> u8 {
-        let proposal = (record.len() == PROPOSAL).then(|| Proposal::read(record));
-        let refusal = proposal.map_or(0, |p| self.proposal_refusal(&p));
+        };
         if refusal != 0 {
             return refusal;
         }
-        let mut event = Event { office: *self, room: room_of(record), largest: 0, out };
-        match proposal {
-            None => event.report(set(record, 3), set(record, 11)),
-            Some(p) => event.proposal(p),
-        }
-        if event.largest > L {
-            event.out.clear();
+        let course = self.course(event, out);
+        if course.largest > L {
+            out.clear();
             return 13;
         }
-        *self = event.office;
+        *self = course.office;
         0
     }
 
-    // Reasons to refuse, 6 to 12 and 19.
-    fn proposal_refusal(&self, p: &Proposal) -> u8 {
-        let sender = p.sender as usize;
-        if sender > 15 || sender == self.own {
-            6
-        } else if p.kind != FAST && p.kind != SLOW {
-            7
-        } else if p.start == 0 || p.start > L || p.number == 0 || p.number > L || p.used.iter().any(|&u| u > L) {
-            8
-        } else if !has_seat(p.members, sender) || !has_seat(p.members, self.own) {
-            9
-        } else if (0..16).any(|o| !has_seat(p.members, o) && p.used[o] != 0) {
-            10
-        } else if p.used[sender] >= p.number {
-            // Change request 8.
-            19
-        } else if p.number <= self.accepted[sender] {
-            11
-        } else if p.used[self.own] > self.number {
-            12
-        } else {
-            0
+    // What this state says to an event of good form, but for 13.
+    fn late_refusal(&self, event: &Event) -> u8 {
+        let What::Proposal(p) = &event.what else { return 0 };
+        let last = self.accepted[p.sender as usize];
+        first(&[(11, &|| p.number <= last), (12, &|| p.used[self.own] > self.number)])
+    }
+
+    // The event by the rules, whatever its form; a sender is an office.
+    fn course<'a>(&self, event: &Event, out: &'a mut Vec<u8>) -> Course<'a> {
+        let mut course = Course { office: *self, room: event.room, largest: 0, out };
+        match event.what {
+            What::Report { joining, leaving } => course.report(joining, leaving),
+            What::Proposal(p) => course.proposal(p),
+        }
+        course
+    }
+
+    // The event would make a number above L, if nothing else were wrong with it. A sender above 15 has no place here.
+    pub fn makes_above(&self, event: &Event) -> bool {
+        match event.what {
+            What::Proposal(p) if p.sender > 15 => false,
+            _ => self.course(event, &mut Vec::new()).largest > L,
         }
     }
 
@@ -286,7 +330,7 @@ impl Office {
     // 1 + the largest of the own proposal number and the stored ones of the net view's offices.
     fn next_number(&self) -> u32 {
         let stored = offices(self.net).filter_map(|o| self.stored[o]).map(|p| p.number);
-        1 + stored.fold(self.number, u32::max)
+        stored.fold(self.number, u32::max).saturating_add(1)
     }
 
     fn slow_called_for(&self) -> bool {
@@ -328,14 +372,14 @@ impl Office {
 }
 
 // The office as an event leaves it, the largest number that the event made, and what it writes.
-struct Event<'a> {
+struct Course<'a> {
     office: Office,
     room: u8,
     largest: u32,
     out: &'a mut Vec<u8>,
 }
 
-impl Event<'_> {
+impl Course<'_> {
     fn make(&mut self, n: u32) -> u32 {
         self.largest = self.largest.max(n);
         n
@@ -363,7 +407,7 @@ impl Event<'_> {
 
     // Step 3, but for the mode.
     fn open(&mut self) {
-        self.office.start = self.make(self.office.view.number.max(self.office.start + 1));
+        self.office.start = self.make(self.office.view.number.max(self.office.start.saturating_add(1)));
         self.out.extend(notice(self.room, self.office.start, self.office.net));
     }
 
@@ -419,7 +463,7 @@ impl Event<'_> {
             starts[k] = p.start;
             self.office.used[k] = p.number;
         }
-        let number = self.make(1 + starts.into_iter().max().unwrap());
+        let number = self.make(starts.into_iter().max().unwrap().saturating_add(1));
         self.office.view = View { number, members: self.office.net, starts };
         self.office.mode = Mode::None;
         self.office.view.write(self.room, self.out);
@@ -438,15 +482,24 @@ impl Table {
         Table { rooms: [Office::fresh(own); ROOMS] }
     }
 
-    // One event at one office, as for one room.
-    pub fn step(&mut self, record: &[u8], capacity: usize, out: &mut Vec<u8>) -> u8 {
+    // The acting call, on an event that was read or built by hand.
+    pub fn act(&mut self, event: &Event, capacity: usize, out: &mut Vec<u8>) -> u8 {
         out.clear();
-        if self.malformed() {
-            return 2;
-        }
-        match form_refusal(record, capacity) {
-            0 => self.rooms[room_of(record) as usize].act(record, out),
+        let room = event.room as usize;
+        let refusal =
+            first(&[(2, &|| self.malformed()), (3, &|| capacity < CAPACITY), (20, &|| room >= ROOMS)]);
+        match refusal {
+            0 => self.rooms[room].act(event, out),
             refusal => refusal,
+        }
+    }
+
+    // Both in turn.
+    pub fn step(&mut self, office: u8, record: &[u8], capacity: usize, out: &mut Vec<u8>) -> u8 {
+        out.clear();
+        match read(office, record) {
+            Ok(event) => self.act(&event, capacity, out),
+            Err(refusal) => refusal,
         }
     }
 
@@ -481,7 +534,8 @@ pub fn program(input: &mut impl Read, mut each: impl FnMut(Line)) {
         let table = &Table::fresh(0);
         return each(Line { number: 0, refusal: 1, record: &[], table, bytes: &[], view_number: 0 });
     }
-    let mut table = Table::fresh(record[0] as usize);
+    let office = record[0];
+    let mut table = Table::fresh(office as usize);
     let mut out = Vec::new();
     for number in 1.. {
         let mut got = fill(input, &mut record[..2]);
@@ -492,7 +546,7 @@ pub fn program(input: &mut impl Read, mut each: impl FnMut(Line)) {
             got += fill(input, &mut record[2..length]);
         }
         let record = &record[..got];
-        let refusal = table.step(record, CAPACITY, &mut out);
+        let refusal = table.step(office, record, CAPACITY, &mut out);
         let view_number = match refusal {
             4 | 5 | 20 => 0,
             _ => table.rooms[room_of(record) as usize].view.number,

@@ -71,7 +71,8 @@ fn a_day(room: u8) -> (Vec<u32>, Vec<Option<u32>>) {
     unsafe { room_fresh(0, table.as_mut_ptr(), TABLE) };
     let mut views = vec![view_number(&table, room)];
     for record in seats.iter().chain([&proposal, &proposal]) {
-        unsafe { room_step(table.as_mut_ptr(), TABLE, record.as_ptr(), record.len(), out.as_mut_ptr(), CAPACITY) };
+        let (lent, length) = (table.as_mut_ptr(), record.len());
+        unsafe { room_step(0, lent, TABLE, record.as_ptr(), length, out.as_mut_ptr(), CAPACITY) };
         views.push(view_number(&table, room));
     }
     (table, views)

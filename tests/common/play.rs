@@ -220,7 +220,7 @@ impl Play {
             }
         }
         self.at = to;
-        let refusal = self.offices[to].step(record, CAPACITY, &mut self.out);
+        let refusal = self.offices[to].step(to as u8, record, CAPACITY, &mut self.out);
         let mut rest = &self.out[..];
         while !rest.is_empty() {
             let length = written_length(rest);

@@ -1,5 +1,5 @@
 // Reports that change nothing: how they are made, and of which kinds those are that an office was handed.
-use crate::model::{has_seat, report, room_of, set, Mode, Office, CAPACITY, ROOMS};
+use crate::model::{has_seat, report, room_of, set, Event, Mode, Office, What, ROOMS};
 use crate::random::Random;
 
 // A report that leaves a net view equal to what it was.
@@ -45,7 +45,7 @@ pub struct Reports {
 }
 
 impl Reports {
-    // A report that passed checks 2 to 5 and 20, the office in its room as it found it, and whether it was accepted
+    // A report that passed all before 13, the office in its room as it found it, and whether it was accepted
     // with 0 bytes and the state as it was.
     pub fn count(&mut self, office: &Office, record: &[u8], nothing: bool) {
         let (joining, leaving, last) = (set(record, 3), set(record, 11), &mut self.last[room_of(record) as usize]);
@@ -86,6 +86,6 @@ impl Reports {
 
 // A report that is heard and comes to the same net view, from the empty one, is refused 13.
 fn refuses_if_heard(office: &Office) -> bool {
-    let mut other = Office { net: 0, ..*office };
-    other.step(&report(0, office.net, 0), CAPACITY, &mut Vec::new()) == 13
+    let other = Office { net: 0, ..*office };
+    other.makes_above(&Event { room: 0, what: What::Report { joining: office.net, leaving: 0 } })
 }

@@ -146,7 +146,7 @@ impl Server {
 
     fn event(&mut self, t: &mut Tally, random: &mut Random, record: &[u8]) {
         let mut out = Vec::new();
-        self.table.step(record, CAPACITY, &mut out);
+        self.table.step(self.own as u8, record, CAPACITY, &mut out);
         if self.send(t, random, &out).is_err() {
             self.restart(t);
         }

@@ -2,11 +2,12 @@
 // model:
 //   read, fresh, put, put_stored   a row; none is read where the words are no row
 //   passes                         check 2 of one row
-//   step                           one event on a row alone: 2 is of this row
+//   act                            one event on a row that passes check 2
 //   fresh_table, place             a table, and the words of a room in it
 //   passes_table                   check 2 of a table: of its length and of all eight rows
-//   step_table                     one event on a table: the row of the record's room alone changes
-use crate::model::{form_refusal, room_of, Mode, Office, Proposal, View, FAST, L, PROPOSAL, ROOMS, SLOW};
+//   act_table                      one event on a table: the row of its room alone changes
+//   step_table                     both calls in turn: a record read for an office, then acted on
+use crate::model::{read as read_record, Event, Mode, Office, Proposal, View, What, CAPACITY, FAST, L, ROOMS, SLOW};
 use std::ops::Range;
 
 // Of one room, and of a table.
@@ -126,21 +127,23 @@ pub fn put(row: &mut [u32], office: &Office) {
 
 // The number of document 01, with the row as it then is and what is written in `out`. A slot that the event neither
 // fills nor empties keeps its words.
-pub fn step(row: &mut [u32], record: &[u8], capacity: usize, out: &mut Vec<u8>) -> u8 {
-    out.clear();
-    let Some(before) = read(row) else { return 2 };
+pub fn act(row: &mut [u32], event: &Event, out: &mut Vec<u8>) -> u8 {
+    let before = read(row).expect("words that pass check 2");
     let mut after = before;
-    let refusal = after.step(record, capacity, out);
+    let refusal = after.act(event, out);
     if refusal != 0 {
         return refusal;
     }
     put(row, &after);
+    let sender = match &event.what {
+        What::Report { .. } => None,
+        What::Proposal(p) => Some(p.sender as usize),
+    };
     for o in 0..16 {
         // a proposal of its own raises the own number
-        let came = record.len() == PROPOSAL && record[3] as usize == o;
         let made = o == after.own && after.number != before.number;
         let emptied = before.stored[o].is_some() && after.stored[o].is_none();
-        if came || made || emptied {
+        if sender == Some(o) || made || emptied {
             put_stored(row, o, after.stored[o]);
         }
     }
@@ -171,13 +174,23 @@ pub fn passes_table(table: &[u32]) -> bool {
     table.len() == TABLE && (0..ROOMS).all(|room| passes(&table[place(room)]))
 }
 
-pub fn step_table(table: &mut [u32], record: &[u8], capacity: usize, out: &mut Vec<u8>) -> u8 {
+pub fn act_table(table: &mut [u32], event: &Event, capacity: usize, out: &mut Vec<u8>) -> u8 {
     out.clear();
     if !passes_table(table) {
-        return 2;
+        2
+    } else if capacity < CAPACITY {
+        3
+    } else if event.room as usize >= ROOMS {
+        20
+    } else {
+        act(&mut table[place(event.room as usize)], event, out)
     }
-    match form_refusal(record, capacity) {
-        0 => step(&mut table[place(room_of(record) as usize)], record, capacity, out),
-        refusal => refusal,
+}
+
+pub fn step_table(office: u8, table: &mut [u32], record: &[u8], capacity: usize, out: &mut Vec<u8>) -> u8 {
+    out.clear();
+    match read_record(office, record) {
+        Ok(event) => act_table(table, &event, capacity, out),
+        Err(refusal) => refusal,
     }
 }

@@ -1,6 +1,6 @@
 // Change request 8, proposals that claim to have used themselves, or nearly do: which kinds of them an office was
 // handed, and what offices that follow the rules sent.
-use crate::model::{has_seat, written_length, Office, Proposal, CAPACITY, FAST, L, PROPOSAL, SLOW};
+use crate::model::{has_seat, written_length, Event, Office, Proposal, What, FAST, L, PROPOSAL, SLOW};
 
 // The reasons to refuse a proposal, in checking order.
 const ORDER: [u8; 9] = [6, 7, 8, 9, 10, 19, 11, 12, 13];
@@ -23,18 +23,11 @@ fn reasons(o: &Office, p: &Proposal, answer: u8) -> Vec<u8> {
     let mut all: Vec<u8> = ORDER.into_iter().filter(|&reason| applies(reason)).collect();
     let high = match all[..] {
         [] => answer == 13,
-        [19] => too_high(o, p),
+        [19] => o.makes_above(&Event { room: 0, what: What::Proposal(*p) }),
         _ => false,
     };
     all.extend(high.then_some(13));
     all
-}
-
-// The event makes a number above L. The rules ask nothing more of the used number for the sender.
-fn too_high(o: &Office, p: &Proposal) -> bool {
-    let mut other = *p;
-    other.used[p.sender as usize] = 0;
-    { *o }.step(&other.bytes(0), CAPACITY, &mut Vec::new()) == 13
 }
 
 pub const KINDS: [&str; 24] = [
@@ -85,7 +78,8 @@ impl Default for SelfUses {
 }
 
 impl SelfUses {
-    // A proposal that passed checks 2 to 5 and 20, the office in its room as it found it, and its answer.
+    // A proposal to which 1 to 5 and 20 do not apply, read for the own office of its room's state; that state as it
+    // found it, and its answer.
     pub fn count(&mut self, o: &Office, record: &[u8], refusal: u8) {
         let p = Proposal::read(record);
         let reasons = reasons(o, &p, refusal);

@@ -124,9 +124,9 @@ impl Server {
     }
 }
 
-// The step on a table of words, with a record and an output of a length: its answer, and what it wrote.
-pub trait Step: FnOnce(&mut Vec<u32>, &[u8], usize) -> (u8, Vec<u8>) {}
-impl<F: FnOnce(&mut Vec<u32>, &[u8], usize) -> (u8, Vec<u8>)> Step for F {}
+// The step for an office on a table of words, with a record and an output of a length: its answer, and what it wrote.
+pub trait Step: FnOnce(u8, &mut Vec<u32>, &[u8], usize) -> (u8, Vec<u8>) {}
+impl<F: FnOnce(u8, &mut Vec<u32>, &[u8], usize) -> (u8, Vec<u8>)> Step for F {}
 
 pub struct Sixteen<'a> {
     random: &'a mut Random,
@@ -207,7 +207,7 @@ impl Sixteen<'_> {
         let capacity = if self.random.below(self.calm) == 0 { CAPACITY - 1 } else { CAPACITY };
         let is_cut = self.random.below(2 * self.calm) == 0;
         let server = &mut self.servers[to];
-        let (refusal, written) = step(&mut server.table, record, capacity);
+        let (refusal, written) = step(to as u8, &mut server.table, record, capacity);
         met.answers[refusal as usize] += 1;
         for record in server.send(&written, if is_cut { self.random.below(ALL) } else { ALL }, met) {
             met.sent.count(record);

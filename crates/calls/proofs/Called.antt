@@ -8,8 +8,9 @@ use Rattle.step.specs.Step.{stepWords, Stepped}
 use Rattle.calls.specs.Number.{callNumber}
 use Rattle.calls.specs.OfficeCalls.{callOf}
 
-pub call-is : (ws b o : List ℕ) (refusal written : ℕ) (ws′ o′ : List ℕ) (r : ℕ)
-    → Stepped (roomOf b) (stepWords ws b (length o)) o refusal written ws′ o′
-    → r ≡ callNumber written refusal → record { answer = r; words = ws′; bytes = o′ } ≡ callOf ws b o
+pub call-is : (office : ℕ) (ws b o : List ℕ) (refusal written : ℕ) (ws′ o′ : List ℕ) (r : ℕ)
+    → Stepped (roomOf b) (stepWords office ws b (length o)) o refusal written ws′ o′
+    → r ≡ callNumber written refusal → record { answer = r; words = ws′; bytes = o′ } ≡ callOf office ws b o
 unfolding callOf
-call-is ws b o refusal written ws′ o′ r h e = rw (e, h .same-refusal, h .same-written, h .same-words, h .same-out)
+call-is office ws b o refusal written ws′ o′ r h e =
+    rw (e, h .same-refusal, h .same-written, h .same-words, h .same-out)

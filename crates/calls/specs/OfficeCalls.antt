@@ -30,5 +30,5 @@ calledOf room o q =
       bytes = sets o 0 (allBytes room (q .written));
     }
 
-unfoldable pub callOf : List ℕ → List ℕ → List ℕ → Called
-callOf ws b o = calledOf (roomOf b) o (stepWords ws b (length o))
+unfoldable pub callOf : ℕ → List ℕ → List ℕ → List ℕ → Called
+callOf office ws b o = calledOf (roomOf b) o (stepWords office ws b (length o))

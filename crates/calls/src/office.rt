@@ -44,13 +44,13 @@ fn step_number(written: usize, refusal: u8) -> u32
     call_number(written as u16, refusal)
 }
 
-// Hands a record to the table in the words lent.
+// Reads a record for an office, then acts on its event in the words lent.
 #[no_mangle]
-pub extern "C" fn room_step(table: &mut [u32], record: &[u8], out: &mut [u8]) -> u32
+pub extern "C" fn room_step(office: u8, table: &mut [u32], record: &[u8], out: &mut [u8]) -> u32
     ensures { λ r. ⌜ record { answer = r; words = now (table .exit); bytes = now (out .exit) }
-        ≡ callOf (now (table .entry)) (now («record» .entry)) (now (out .entry)) ⌝ }
+        ≡ callOf office (now (table .entry)) (now («record» .entry)) (now (out .entry)) ⌝ }
 {
-    let stepped = step::step(table, record, out);
+    let stepped = step::step(office, table, record, out);
     step_number(stepped.written, stepped.refusal)
 }
 

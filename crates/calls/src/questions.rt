@@ -3,6 +3,7 @@ use seats::SeatSet;
 use seats::offices::touched;
 ghost use mathlib.Core.Path.{_≡_};
 ghost use Rattle.records.specs.Layout.{checkOf};
+ghost use Rattle.rules.specs.Tables.{readOf};
 ghost use Rattle.seats.specs.Offices.{officesOf, countOf};
 
 // The number by checks 4 and 5 for some bytes; 0 where they pass both.
@@ -11,6 +12,14 @@ pub extern "C" fn room_record_check(bytes: &[u8]) -> u8
     ensures { λ r. ⌜ r ≡ checkOf (now (bytes .entry)) ⌝ }
 {
     records::check(bytes)
+}
+
+// The reading call's number for a record and an office: 1, 4, 5, 20, 6 to 10, 19, or 0.
+#[no_mangle]
+pub extern "C" fn room_read(office: u8, bytes: &[u8]) -> u8
+    ensures { λ r. ⌜ r ≡ readOf office (now (bytes .entry)) .refusal ⌝ }
+{
+    events::read_event(office, bytes).refusal
 }
 
 // The offices of a seat set: bit o is set when office o has a seat in it.

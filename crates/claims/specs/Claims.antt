@@ -9,6 +9,7 @@ use Rattle.claims.specs.Demand2.{Demand2}
 use Rattle.claims.specs.Requests.{Request1, Request2, Request3, Request4, Request5, Request6, Request7}
 use Rattle.claims.specs.Requests.{Request8}
 use Rattle.claims.specs.Rooms.{Request9}
+use Rattle.claims.specs.Reading.{Request10}
 
 pub record Claims : Type 0 where
   -- Demand 1. Every record, state and buffer is taken; what is refused has one number, and changes nothing.
@@ -36,3 +37,5 @@ pub record Claims : Type 0 where
   pub request8 : Request8
   -- Request 9. Eight rooms on one server.
   pub request9 : Request9
+  -- Request 10. Reading apart from acting.
+  pub request10 : Request10

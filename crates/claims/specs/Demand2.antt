@@ -101,11 +101,13 @@ pub record Views : Type 0 where
 -- What an event writes.
 pub record Writes : Type 0 where
   -- A view is written after all else.
-  pub view-last : (s : State) (b : List ℕ) (output : ℕ) → ViewLast (stepOf s b output .written)
+  pub view-last : (office : ℕ) (s : State) (b : List ℕ) (output : ℕ) → ViewLast (stepOf office s b output .written)
   -- A used number or a view's start number is 0 for an office without a seat in the members.
-  pub seats-only : (s : State) (b : List ℕ) (output : ℕ) → Every SeatsOnly (stepOf s b output .written)
+  pub seats-only : (office : ℕ) (s : State) (b : List ℕ) (output : ℕ)
+      → Every SeatsOnly (stepOf office s b output .written)
   -- No number in a record passes L.
-  pub records-within : (s : State) (b : List ℕ) (output : ℕ) → Every RecordWithin (stepOf s b output .written)
+  pub records-within : (office : ℕ) (s : State) (b : List ℕ) (output : ℕ)
+      → Every RecordWithin (stepOf office s b output .written)
 
 -- One layout, in every room.
 pub record Layout : Type 0 where

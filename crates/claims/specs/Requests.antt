@@ -76,12 +76,14 @@ pub record Request1 : Type 0 where
 -- Request 2. Reports that change nothing.
 pub record Request2 : Type 0 where
   -- A report that leaves the net view equal to what it was is accepted and does nothing: 0 bytes, state unchanged;
-  pub repeat-step : (s : State) (r : Report) → wellFormed s ≡ true → repeats s r ≡ true → (b : List ℕ) (output : ℕ)
-      → fullRoom ≤ output → readCheck b ≡ 0 → eventOf b ≡ aReport r → stepOf s b output ≡ accepted (nothingWritten s)
+  pub repeat-step : (s : State) (r : Report) → wellFormed s ≡ true → repeats s r ≡ true
+      → (office : ℕ) (b : List ℕ) (output : ℕ) → office < 16 → readCheck b ≡ 0 → fullRoom ≤ output
+      → eventOf b ≡ aReport r → stepOf office s b output ≡ accepted (nothingWritten s)
   -- every word stays.
-  pub repeat-stays : (ws b : List ℕ) (output : ℕ) (r : Report) → SoundTable ws → ((k : ℕ) → getD ws k 0 < word)
-      → fullRoom ≤ output → readCheck b ≡ 0 → eventOf b ≡ aReport r → repeats (tableOf ws (roomOf b)) r ≡ true
-      → stepWords ws b output ≡ record { refusal = 0; written = []; words = ws }
+  pub repeat-stays : (office : ℕ) (ws b : List ℕ) (output : ℕ) (r : Report) → SoundTable ws
+      → ((k : ℕ) → getD ws k 0 < word) → office < 16 → readCheck b ≡ 0 → fullRoom ≤ output → eventOf b ≡ aReport r
+      → repeats (tableOf ws (roomOf b)) r ≡ true
+      → stepWords office ws b output ≡ record { refusal = 0; written = []; words = ws }
   -- The last report again is such a one.
   pub again : (s : State) (r : Report) → s .net .bits < 2 ^ 64 → FitsReport r
       → repeats (reportRule s r .state) r ≡ true
@@ -204,7 +206,7 @@ pub record Request7 : Type 0 where
   -- Who asks before each record of an answer, whatever the step was handed, does just what the theorems speak of: a
   -- cut after any byte or record leaves that file, and those records have left.
   pub caller-leaves : (room : ℕ) (f : List ℕ) → goodFile f ≡ true → (out : List ℕ) → highLength ≤ length out
-      → (t : Table) (b : List ℕ) (output : ℕ) → let ws = stepTable t b output .written in
+      → (office : ℕ) (t : Table) (b : List ℕ) (output : ℕ) → let ws = stepTable office t b output .written in
       MovesAs room f ws (callerMoves f out (allBytes room ws))
   -- So of a server on words with its file, handed any bytes, lent any output for marks and cut off after any byte
   -- written or record sent: the bytes that leave are those of records that give out no number twice in a room,
@@ -222,11 +224,12 @@ pub record Request7 : Type 0 where
 -- Request 8. A proposal that claims to have used itself.
 pub record Request8 : Type 0 where
   -- 19 is given only where the used number for the sender is not below the proposal's own number,
-  pub only-self-use : (s : State) (p : Proposal) (output : ℕ) → takeOf s (aProposal p) output .refusal ≡ 19
+  pub only-self-use : (s : State) (p : Proposal) (office output : ℕ)
+      → takeOf office s (aProposal p) output .refusal ≡ 19
       → p .number ≤ usedFor p (p .sender)
   -- and such a proposal is always refused.
-  pub self-use-refused : (s : State) (p : Proposal) (output : ℕ) → p .number ≤ usedFor p (p .sender)
-      → takeOf s (aProposal p) output .refusal ≡ 0 → ⊥
+  pub self-use-refused : (s : State) (p : Proposal) (office output : ℕ) → p .number ≤ usedFor p (p .sender)
+      → takeOf office s (aProposal p) output .refusal ≡ 0 → ⊥
   -- From a fresh or restarted state, cut off or not, at whatever numbers it begins again: every proposal that leaves
   -- has a used number for its sender below its own number,
   pub never-used : (own : ℕ) → own < 16 → (m : ℕ) (ts : List Turn) (p : Proposal)
@@ -234,7 +237,7 @@ pub record Request8 : Type 0 where
   -- so that no state of any office answers 19 to it.
   pub never-19 : (own : ℕ) → own < 16 → (m : ℕ) (ts : List Turn) (p : Proposal)
       → List·Memᴰ (proposal p) (leftOver (restarted own m) ts)
-      → (s : State) (output : ℕ) → takeOf s (aProposal p) output .refusal ≡ 19 → ⊥
+      → (office : ℕ) (s : State) (output : ℕ) → takeOf office s (aProposal p) output .refusal ≡ 19 → ⊥
   -- In the world of sixteen offices the same of every proposal sent by an office that began fresh or restarted,
   -- whatever the others are and do:
   pub never-used-sent : (own : ℕ) → own < 16 → (m : ℕ) (states : ℕ → State) (links : ℕ → ℕ → List Item)
@@ -244,13 +247,13 @@ pub record Request8 : Type 0 where
   pub never-19-sent : (own : ℕ) → own < 16 → (m : ℕ) (states : ℕ → State) (links : ℕ → ℕ → List Item)
       → states own ≡ restarted own m → (es : List WorldEvent) (p : Proposal)
       → HasSent (run (atFirst states links) es) own p
-      → (s : State) (output : ℕ) → takeOf s (aProposal p) output .refusal ≡ 19 → ⊥
+      → (office : ℕ) (s : State) (output : ℕ) → takeOf office s (aProposal p) output .refusal ≡ 19 → ⊥
   -- The same of the code: to no bytes that leave a server on words with its file, handed any bytes and cut off
   -- anywhere, does any table answer 19.
   pub code-never-19 : (own : ℕ) → own < 16 → (out : List ℕ) → highLength ≤ length out → (ws : List ℕ)
       → SoundTable ws → ((room : ℕ) → room < roomCount → tableOf ws room ≡ fresh own) → (ts : List WordsTurn)
       → Every (λ t. Below 256 (bytesIn t)) ts
-      → Every (λ b. (t : Table) (output : ℕ) → stepTable t b output .refusal ≡ 19 → ⊥)
+      → Every (λ b. (office : ℕ) (t : Table) (output : ℕ) → stepTable office t b output .refusal ≡ 19 → ⊥)
       (bytesLeft own out (record { words = ws; file = [] }) ts)
   -- A used number just below, at and above the own number; 9 and 10 before 19, 19 before 11, 12 and 13.
   pub self-uses : selfUseComputed ≡ selfUseStated

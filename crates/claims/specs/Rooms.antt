@@ -12,9 +12,9 @@ use Rattle.records.specs.Layout.{roomOf, checkOf}
 use Rattle.records.specs.declared.View.{View}
 use Rattle.rules.specs.MarkFile.{fileLimit, lastHigh}
 use Rattle.rules.specs.Rules.{Written, view}
-use Rattle.rules.specs.Refusals.{fullRoom, stepOf, size, bytesOf}
+use Rattle.rules.specs.Refusals.{stepOf, bytesOf}
 use Rattle.rules.specs.Tables.{Table, freshTable, restartedTable, wellTable, restartTable, RoomEvent, shownIn}
-use Rattle.rules.specs.Tables.{TableResult, refusedTable, inTable, takeTable, stepTable}
+use Rattle.rules.specs.Tables.{TableResult, refusedTable, inTable, readOf, takeTable, stepTable}
 use Rattle.rule_laws.proofs.Reasons.{Answer}
 use Rattle.runs.specs.World.{Item, next}
 use Rattle.runs.specs.Office.{OfSeats, NumbersOnce}
@@ -40,25 +40,26 @@ use Rattle.text.specs.Lines.{viewFor}
 -- One table holds eight room states.
 pub record Tables : Type 0 where
   -- What is refused is refused with the whole table and the output unchanged,
-  pub table-keeps : (t : Table) (b : List ℕ) (output : ℕ) → (stepTable t b output .refusal ≡ 0 → ⊥)
-      → stepTable t b output ≡ refusedTable (stepTable t b output .refusal) t
+  pub table-keeps : (office : ℕ) (t : Table) (b : List ℕ) (output : ℕ)
+      → (stepTable office t b output .refusal ≡ 0 → ⊥)
+      → stepTable office t b output ≡ refusedTable (stepTable office t b output .refusal) t
   -- under one number of the list.
-  pub table-number : (t : Table) (b : List ℕ) (output : ℕ) → Answer (stepTable t b output .refusal)
-  -- 2 where any room fails it, whatever the record;
-  pub table-check : (t : Table) (b : List ℕ) (output : ℕ) → wellTable t ≡ false
-      → stepTable t b output ≡ refusedTable 2 t
-  -- 20 when the room is above 7, checked after 5.
-  pub room-above : (t : Table) (b : List ℕ) (output : ℕ) → wellTable t ≡ true → fullRoom ≤ output → checkOf b ≡ 0
-      → roomCount ≤ roomOf b → stepTable t b output ≡ refusedTable 20 t
+  pub table-number : (office : ℕ) (t : Table) (b : List ℕ) (output : ℕ) → Answer (stepTable office t b output .refusal)
+  -- 2 where any room fails it, whatever the record's room, once the record is read;
+  pub table-check : (office : ℕ) (t : Table) (b : List ℕ) (output : ℕ) → readOf office b .refusal ≡ 0
+      → wellTable t ≡ false → stepTable office t b output ≡ refusedTable 2 t
+  -- 20 when the room is above 7, checked after 5, whatever the table and the output.
+  pub room-above : (office : ℕ) (t : Table) (b : List ℕ) (output : ℕ) → office < 16 → checkOf b ≡ 0
+      → roomCount ≤ roomOf b → stepTable office t b output ≡ refusedTable 20 t
   -- Otherwise a record does in its room what it does to that room's state alone,
-  pub in-room : (t : Table) (b : List ℕ) (output : ℕ) → wellTable t ≡ true → roomOf b < roomCount
-      → stepTable t b output ≡ inTable t (roomOf b) (stepOf (t (roomOf b)) b output)
+  pub in-room : (office : ℕ) (t : Table) (b : List ℕ) (output : ℕ) → wellTable t ≡ true → roomOf b < roomCount
+      → stepTable office t b output ≡ inTable t (roomOf b) (stepOf office (t (roomOf b)) b output)
   -- and no event leaves a table that the next one would refuse.
-  pub table-well : (t : Table) (b : List ℕ) (output : ℕ) → wellTable t ≡ true
-      → wellTable (stepTable t b output .table) ≡ true
+  pub table-well : (office : ℕ) (t : Table) (b : List ℕ) (output : ℕ) → wellTable t ≡ true
+      → wellTable (stepTable office t b output .table) ≡ true
   -- The other rooms stay, word for word.
-  pub rows-stay : (ws b : List ℕ) (output : ℕ) → SoundTable ws → (other : ℕ) → (other ≡ roomOf b → ⊥)
-      → rowAt (stepWords ws b output .words) other ≡ rowAt ws other
+  pub rows-stay : (office : ℕ) (ws b : List ℕ) (output : ℕ) → SoundTable ws → (other : ℕ)
+      → (other ≡ roomOf b → ⊥) → rowAt (stepWords office ws b output .words) other ≡ rowAt ws other
   -- The program prints the current view number of the record's room, and 0 there when the answer is 4, 5 or 20.
   pub view-printed : (room : ℕ) (q : TableResult) → (q .refusal ≡ 4 → ⊥) → (q .refusal ≡ 5 → ⊥)
       → (q .refusal ≡ 20 → ⊥) → viewFor room q ≡ q .table room .view .number
@@ -68,11 +69,12 @@ pub record Tables : Type 0 where
 -- 2 and agree on one room answer its records alike, with the other rooms changed at will.
 pub record Isolation : Type 0 where
   -- Over one record, in words: the answer, what is written and the room's own words;
-  pub alike : (ws vs b : List ℕ) (output : ℕ) → SoundTable ws → SoundTable vs → roomOf b < roomCount
+  pub alike : (office : ℕ) (ws vs b : List ℕ) (output : ℕ) → SoundTable ws → SoundTable vs → roomOf b < roomCount
       → rowAt ws (roomOf b) ≡ rowAt vs (roomOf b)
-      → (stepWords ws b output .refusal ≡ stepWords vs b output .refusal)
-      × (stepWords ws b output .written ≡ stepWords vs b output .written)
-      × (rowAt (stepWords ws b output .words) (roomOf b) ≡ rowAt (stepWords vs b output .words) (roomOf b))
+      → (stepWords office ws b output .refusal ≡ stepWords office vs b output .refusal)
+      × (stepWords office ws b output .written ≡ stepWords office vs b output .written)
+      × (rowAt (stepWords office ws b output .words) (roomOf b)
+      ≡ rowAt (stepWords office vs b output .words) (roomOf b))
   -- over runs, in words, with anything handed to the other rooms in between;
   pub alike-runs : (room : ℕ) → room < roomCount → (ws vs : List ℕ) → SoundTable ws → SoundTable vs
       → rowAt ws room ≡ rowAt vs room → (hs is : List words.Handed)
@@ -80,9 +82,9 @@ pub record Isolation : Type 0 where
       → (ofRoom room (words.wordsSent ws hs) ≡ ofRoom room (words.wordsSent vs is))
       × (rowAt (words.wordsAfter ws hs) room ≡ rowAt (words.wordsAfter vs is) room)
   -- and by the rules, over one event
-  pub isolated : (t u : Table) (e : RoomEvent) (output : ℕ) → e .room < roomCount → wellTable t ≡ true
+  pub isolated : (office : ℕ) (t u : Table) (e : RoomEvent) (output : ℕ) → e .room < roomCount → wellTable t ≡ true
       → wellTable u ≡ true → t (e .room) ≡ u (e .room)
-      → shownIn (e .room) (takeTable t e output) ≡ shownIn (e .room) (takeTable u e output)
+      → shownIn (e .room) (takeTable office t e output) ≡ shownIn (e .room) (takeTable office u e output)
   -- and over runs: every answer of the room, its state after, and what it sent.
   pub isolated-runs : (k : ℕ) → k < roomCount → (t u : Table) → wellTable t ≡ true → wellTable u ≡ true → t k ≡ u k
       → (hs is : List Handed) → inputsIn k hs ≡ inputsIn k is

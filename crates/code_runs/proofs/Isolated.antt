@@ -19,7 +19,7 @@ use Rattle.row.proofs.Tables.{sound-is}
 use Rattle.step.specs.Step.{WordsResult, inRow, inWords}
 use Rattle.step.proofs.Holds.{rows-stay, row-step}
 use Rattle.code_runs.specs.Words.{Handed, wordsAnswer, wordsAfter, wordsSent, eventIn, eventsOf}
-use Rattle.code_runs.proofs.Answers.{on-table, still-sound}
+use Rattle.code_runs.proofs.Answers.{as-table, still-sound}
 use Rattle.code_runs.proofs.Runs.{in-room-sent}
 
 -- what is handed to one room does to its row
@@ -33,8 +33,8 @@ module _ (ws : List ℕ) (s : SoundTable ws) (h : Handed) where
   -- bytes that fail checks 4, 5 and 20 leave every word
   unread-stays : (readCheck (h .bytes) ≡ 0 → ⊥) → next ≡ ws
   unread-stays n =
-      ap (λ (q : WordsResult). q .words) (on-table ws h (sound-is ws s))
-      ∙ table-by (tableOf ws) (h .bytes) (h .output) (λ q. inWords ws (roomOf (h .bytes)) q .words ≡ ws)
+      ap (λ (q : WordsResult). q .words) (as-table ws h (sound-is ws s))
+      ∙ table-by (h .office) (tableOf ws) (h .bytes) (h .output) (λ q. inWords ws (roomOf (h .bytes)) q .words ≡ ws)
       (λ m d. rw (ne-eqb m 0 d))
       (λ a. absurd (n (read-facts (h .bytes) .1 (a .accepts .readable, a .accepts .in-room))))
 
@@ -44,12 +44,12 @@ module _ (ws : List ℕ) (s : SoundTable ws) (h : Handed) where
   unfolding answerTo
   row-here room z q =
       subst (λ (k : ℕ). rowAt next k ≡ rowNext (rowAt ws k) (inputOf (eventIn h))) q
-      (row-step ws (h .bytes) (h .output) s (read-facts (h .bytes) .0 z .1) .2
+      (row-step (h .office) ws (h .bytes) (h .output) s (read-facts (h .bytes) .0 z .1) .2
       ∙ ap (λ (x : Result). inRow (rowAt ws (roomOf (h .bytes))) x .words)
-      (step-takes (tableOf ws (roomOf (h .bytes))) (h .bytes) (h .output) z))
+      (step-takes (h .office) (tableOf ws (roomOf (h .bytes))) (h .bytes) (h .output) z))
 
   row-there : (room : ℕ) → (roomOf (h .bytes) ≡ room → ⊥) → rowAt next room ≡ rowAt ws room
-  row-there room n = rows-stay ws (h .bytes) (h .output) s room (λ e. n (sym e))
+  row-there room n = rows-stay (h .office) ws (h .bytes) (h .output) s room (λ e. n (sym e))
 
 -- the row of a room after a run, by its row before and what the room was handed
 rows-run : (room : ℕ) (ws : List ℕ) → SoundTable ws → (hs : List Handed)

@@ -20,8 +20,10 @@ use Rattle.rules.specs.Rules.{Written, fresh}
 use Rattle.rules.specs.MarkFile.{goodFile}
 use Rattle.rules.specs.Leaving.{Action, actionsOf, leftIn}
 use Rattle.rules.specs.Refusals.{readCheck, bytesOf, restartOf, eventOf}
-use Rattle.rules.specs.Tables.{Table, wellTable, restartTable, TableResult, barred, takeTable}
+use Rattle.rules.specs.Tables.{Table, wellTable, RoomEvent, restartTable, TableResult, actTable, noEvent, eventIn}
+use Rattle.rules.specs.Tables.{takeTable}
 use Rattle.rule_laws.proofs.Leaving.{order-passes}
+use Rattle.rule_laws.proofs.Tables.{act-2, act-3, take-table-by}
 use Rattle.rule_laws.proofs.TableSteps.{step-table-takes}
 use Rattle.runs.specs.Office.{OfSeats}
 use Rattle.runs.proofs.OfficeFits.{read-fits}
@@ -43,20 +45,22 @@ use Rattle.restart.proofs.Caller.{table-leaves, take-moves, filed-as, sent-as}
 use Rattle.restart.proofs.RestartTables.{restart-holds, restart-sound}
 use Rattle.code_runs.specs.Words.{Handed, wordsAnswer}
 use Rattle.code_runs.specs.Kept.{WordsKept, WordsTurn, handed, cutWhile, bytesIn, movesFor, movesAt, fileAt}
-use Rattle.code_runs.specs.Kept.{nextKept, bytesLeft, emptyReport, readHanded, readTurn}
+use Rattle.code_runs.specs.Kept.{nextKept, bytesLeft, readHanded, readTurn}
 use Rattle.code_runs.proofs.Answers.{table-skips, wrote, held, still-sound}
 use Rattle.code_runs.proofs.Agreeing.{Agree, take-agree}
 
--- a report without output does nothing
-nothing-done : (t : Table) (room : ℕ) → let q = takeTable t (record { room = room; what = emptyReport }) 0 in
+-- an event without output does nothing: its reading refuses it, or 2 or 3 does
+nothing-done : (office : ℕ) (t : Table) (e : RoomEvent) → let q = takeTable office t e 0 in
     (q .table ≡ t) × (q .written ≡ [])
-unfolding takeTable barred
-nothing-done t room = go (wellTable t) refl
+nothing-done office t e =
+    take-table-by t e 0 office Nothing (λ n. (refl, refl)) (λ z. go (wellTable t) refl)
   where
-    go : (w : Bool) → wellTable t ≡ w → let q = takeTable t (record { room = room; what = emptyReport }) 0 in
-        (q .table ≡ t) × (q .written ≡ [])
-    go true w = rw w (refl, refl)
-    go false w = rw w (refl, refl)
+    Nothing : TableResult → Type 0
+    Nothing q = (q .table ≡ t) × (q .written ≡ [])
+
+    go : (w : Bool) → wellTable t ≡ w → Nothing (actTable t e 0)
+    go true w = rw (act-3 t e 0 w (omega arith)) (refl, refl)
+    go false w = rw (act-2 t e 0 w) (refl, refl)
 
 -- what the step makes of bytes is what the rules make of the event, where the words hold the rooms of the table
 module _ (ws : List ℕ) (s : SoundTable ws) (t : Table) (a : Agree (tableOf ws) t) (h : Handed) where
@@ -76,17 +80,17 @@ module _ (ws : List ℕ) (s : SoundTable ws) (t : Table) (a : Agree (tableOf ws)
 
       go : Dec (readCheck (h .bytes) ≡ 0) → Answers
       go (yes z) =
-          let e = step-table-takes (tableOf ws) b (h .output) z in
-          let x = take-agree (tableOf ws) t a (record { room = roomOf b; what = eventOf b }) (h .output) in
+          let e = step-table-takes (h .office) (tableOf ws) b (h .output) z in
+          let x = take-agree (tableOf ws) t a (eventIn b) (h .output) (h .office) in
           record {
             written = rw z (wrote ws h (sound-is ws s) ∙ ap (λ (q : TableResult). q .written) e ∙ x .written);
             table = λ room l. rw z (ap (λ (q : Table). q room) (held ws h (sound-is ws s) .1)
                 ∙ ap (λ (q : TableResult). q .table room) e ∙ x .table room l);
           }
       go (no n) =
-          let e = table-skips (tableOf ws) b (h .output) n in
+          let e = table-skips (h .office) (tableOf ws) b (h .output) n in
           let q = ne-eqb (readCheck b) 0 n in
-          let nothing = nothing-done t (roomOf b) in
+          let nothing = nothing-done (h .office) t (record { room = roomOf b; what = noEvent .what }) in
           record {
             written = rw (q, nothing .1) (wrote ws h (sound-is ws s) ∙ e .1);
             table = λ room l. rw (q, nothing .0)
@@ -123,7 +127,8 @@ module _ (own : ℕ) (lt : own < 16) (out : List ℕ) (fits : highLength ≤ len
     moves h =
         let room = roomOf (h .bytes) in
         let w = wrote (k .words) h (sound-is _ (s .sound)) in
-        let m = table-leaves room (q .file) good out fits (tableOf (k .words)) (h .bytes) (h .output) .moves in
+        let leaves = table-leaves room (q .file) good out fits (h .office) in
+        let m = leaves (tableOf (k .words)) (h .bytes) (h .output) .moves in
         rw (s .file, w) (m ∙ ap (λ (ws : List Written). map (moveOf room) (actionsOf (q .file) ws))
         (sym w ∙ given h .written))
 
@@ -196,7 +201,7 @@ module _ (own : ℕ) (lt : own < 16) (out : List ℕ) (fits : highLength ≤ len
 -- every set handed in is a set of seats
 handed-fits : (h : Handed) → Below 256 (h .bytes) → OfSeats (readHanded h .event .what)
 handed-fits h b =
-    if-cases OfSeats (eqb (readCheck (h .bytes)) 0) (eventOf (h .bytes)) emptyReport (λ e. read-fits (h .bytes) b)
+    if-cases OfSeats (eqb (readCheck (h .bytes)) 0) (eventOf (h .bytes)) (noEvent .what) (λ e. read-fits (h .bytes) b)
     (λ e. record { joining = omega arith; leaving = omega arith })
 
 turn-fits : (t : WordsTurn) → Below 256 (bytesIn t) → OfSeats (inputOf (servedAt (readTurn t)) .event)

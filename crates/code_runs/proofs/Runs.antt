@@ -31,9 +31,9 @@ module _ (ws : List ℕ) (h : Handed) (is : isTable ws ≡ true) where
   next = wordsAnswer ws h .words
 
   taken : readCheck (h .bytes) ≡ 0
-      → stepTable (tableOf ws) (h .bytes) (h .output) ≡ answerTable (tableOf ws) (eventIn h)
+      → stepTable (h .office) (tableOf ws) (h .bytes) (h .output) ≡ answerTable (tableOf ws) (eventIn h)
   unfolding answerTable
-  taken z = step-table-takes (tableOf ws) (h .bytes) (h .output) z
+  taken z = step-table-takes (h .office) (tableOf ws) (h .bytes) (h .output) z
 
   -- one more record in front of a run
   run-then : (hs : List Handed) → HoldsTable (wordsAfter next hs) (tableAfter (tableOf next) (eventsOf hs))
@@ -47,7 +47,7 @@ module _ (ws : List ℕ) (h : Handed) (is : isTable ws ≡ true) where
           let same = held ws h is .1 ∙ ap (λ (q : TableResult). q .table) (taken z) in
           rw z (rw same at rest)
       go (no n) =
-          let same = held ws h is .1 ∙ table-skips (tableOf ws) (h .bytes) (h .output) n .0 in
+          let same = held ws h is .1 ∙ table-skips (h .office) (tableOf ws) (h .bytes) (h .output) n .0 in
           rw (ne-eqb (readCheck (h .bytes)) 0 n) (rw same at rest)
 
   sent-then : (hs : List Handed) → wordsSent next hs ≡ tableSent (tableOf next) (eventsOf hs)
@@ -58,7 +58,7 @@ module _ (ws : List ℕ) (h : Handed) (is : isTable ws ≡ true) where
       go : Dec (readCheck (h .bytes) ≡ 0) → wordsSent ws (h ∷ hs) ≡ tableSent (tableOf ws) (eventsOf (h ∷ hs))
       go (yes z) = rw (z, wrote ws h is, rest, held ws h is .1, taken z)
       go (no n) =
-          let skips = table-skips (tableOf ws) (h .bytes) (h .output) n in
+          let skips = table-skips (h .office) (tableOf ws) (h .bytes) (h .output) n in
           rw (ne-eqb (readCheck (h .bytes)) 0 n, wrote ws h is, skips .1, rest, held ws h is .1, skips .0)
 
 pub words-run : (ws : List ℕ) (hs : List Handed) → isTable ws ≡ true

@@ -1,6 +1,6 @@
 -- To no bytes that leave a server on words does any office answer 19.
 use mathlib.Core.Path.{_≡_, refl, sym, ap, subst, _∙_}
-use mathlib.Core.Bool.{Bool, false, not}
+use mathlib.Core.Bool.{Bool, true, false}
 use mathlib.Core.Logic.{_⊎_, inl, inr}
 use mathlib.Core.List.{List, [], _∷_, map, List·Memᴰ, List·Memᴰ·head, List·Memᴰ·tail, List·Memᴰ·not-nil}
 use mathlib.Core.List.{List·Memᴰ·cases-cons}
@@ -8,25 +8,24 @@ use Prim.Native.Nat.{ℕ, _≤_, _<_}
 use native.Mathlib.Omega.{arith}
 use native.Mathlib.Decide.{ℕ-discrete}
 use lib.ListN.{length}
-use lib.Dec.{eqb, ltb}
+use lib.Dec.{eqb}
 use borrow.Author.Tests.{eq-eqb, ne-eqb}
 use Rattle.laws.specs.Big.{Below}
-use Rattle.laws.specs.Lists.{Every, none, more}
-use Rattle.laws.proofs.Checks.{first-by}
-use Rattle.laws.proofs.Fin.{if-cases, true-false}
+use Rattle.laws.specs.Lists.{Every}
+use Rattle.laws.proofs.Fin.{if-cases}
 use Rattle.laws.proofs.Lists.{every-mapped, every-in}
 use Rattle.records.specs.Fits.{FitsProposal}
 use Rattle.records.specs.Numbers.{roomCount}
-use Rattle.records.specs.Layout.{highLength, roomOf, formOf, checkFor, checkOf}
+use Rattle.records.specs.Layout.{highLength, roomOf}
 use Rattle.records.specs.declared.Proposal.{Proposal}
 use Rattle.rules.specs.State.{State, usedFor}
 use Rattle.rules.specs.Rules.{Written, proposal, fresh}
-use Rattle.rules.specs.Refusals.{fullRoom, readChecks, readCheck, unreadable, stepOf}
-use Rattle.rules.specs.Tables.{Table, wellTable, TableResult, stepTable}
+use Rattle.rules.specs.Refusals.{stepOf}
+use Rattle.rules.specs.Tables.{Table, wellTable, TableResult, readOf, stepTable}
 use Rattle.rule_laws.proofs.Parts.{fresh-restarted}
-use Rattle.rule_laws.proofs.SelfUse.{written-never-19}
-use Rattle.rule_laws.proofs.Steps.{read-facts, readable-facts}
-use Rattle.rule_laws.proofs.TableSteps.{step-in-room}
+use Rattle.rule_laws.proofs.SelfUse.{read-19, written-never-19}
+use Rattle.rule_laws.proofs.Steps.{read-facts}
+use Rattle.rule_laws.proofs.TableSteps.{read-refusal, read-passes, step-unread, step-in-room, step-table-2}
 use Rattle.runs.specs.Office.{OfSeats, Turn, leftOver}
 use Rattle.runs.proofs.OfficeFits.{left-fits}
 use Rattle.runs.proofs.OfficeUsed.{never-used}
@@ -38,41 +37,21 @@ use Rattle.row.specs.Table.{tableOf, SoundTable}
 use Rattle.code_runs.specs.Kept.{WordsTurn, bytesIn, bytesLeft, readTurn}
 use Rattle.code_runs.proofs.Kept.{code-left, turns-fit}
 
--- bytes that are not read are not answered by 19
-unread-19 : (well : Bool) (b : List ℕ) (output : ℕ) → eqb (unreadable well b output) 19 ≡ false
-unread-19 well b output =
-    unfold unreadable in
-    if-cases Not19 (not well) _ _ (λ e. refl) (λ e. if-cases Not19 (ltb output fullRoom) _ _ (λ f. refl)
-    (λ f. if-cases Not19 (not (eqb (readCheck b) 0)) _ _ (λ g. read) (λ g. refl)))
+-- a table answers 19 only where the state of the record's room does
+table-19 : (office : ℕ) (t : Table) (b : List ℕ) (output : ℕ) → stepTable office t b output .refusal ≡ 19
+    → stepOf office (t (roomOf b)) b output .refusal ≡ 19
+table-19 office t b output e = go (ℕ-discrete (readOf office b .refusal) 0) (wellTable t) refl
   where
-    Not19 : ℕ → Type 0
-    Not19 n = eqb n 19 ≡ false
+    given : {q : TableResult} → stepTable office t b output ≡ q → q .refusal ≡ 19
+    given r = sym (ap (λ (q : TableResult). q .refusal) r) ∙ e
 
-    checked : eqb (checkOf b) 19 ≡ false
-    checked = unfold checkOf checkFor in
-        if-cases (λ n. eqb n 19 ≡ false) (eqb (formOf b .length) 0) _ _ (λ e. refl)
-        (λ e. if-cases (λ n. eqb n 19 ≡ false) (eqb (length b) (formOf b .length)) _ _ (λ f. refl) (λ f. refl))
-
-    read : eqb (readCheck b) 19 ≡ false
-    read = unfold readCheck in
-        first-by (λ n. eqb n 19 ≡ false) refl (readChecks b) (more (λ e. checked) (more (λ e. refl) none))
-
--- a table answers 19 only in a room, where the state of that room does
-table-19 : (t : Table) (b : List ℕ) (output : ℕ) → stepTable t b output .refusal ≡ 19
-    → (roomOf b < roomCount) × (stepOf (t (roomOf b)) b output .refusal ≡ 19)
-unfolding stepTable
-table-19 t b output e = go (ℕ-discrete (unreadable (wellTable t) b output) 0)
-  where
-    go : Dec (unreadable (wellTable t) b output ≡ 0)
-        → (roomOf b < roomCount) × (stepOf (t (roomOf b)) b output .refusal ≡ 19)
-    go (yes z) =
-        let f = readable-facts (wellTable t) b output .0 z in
-        let l = read-facts b .0 (f .2) .1 in
-        (l, sym (ap (λ (q : TableResult). q .refusal) (step-in-room t b output (f .0) l)) ∙ e)
-    go (no n) =
-        let x : unreadable (wellTable t) b output ≡ 19 =
-        rw (ne-eqb (unreadable (wellTable t) b output) 0 n) at e in
-        absurd (true-false _ (eq-eqb _ 19 x) (unread-19 (wellTable t) b output))
+    go : Dec (readOf office b .refusal ≡ 0) → (u : Bool) → wellTable t ≡ u
+        → stepOf office (t (roomOf b)) b output .refusal ≡ 19
+    go (no n) u w =
+        unfold stepOf in rw (← read-refusal office b, ne-eqb _ 0 n) (given (step-unread office t b output n))
+    go (yes z) false w = let x = given (step-table-2 office t b output z w) in absurd (omega arith)
+    go (yes z) true w =
+        given (step-in-room office t b output w (read-facts b .0 (read-passes office b .0 z .1) .1))
 
 -- what is of a room is among those of that room
 room-member : {A : Type 0} (x : Roomed A) (l : List (Roomed A)) → List·Memᴰ x l
@@ -93,7 +72,7 @@ room-member {A} x (y ∷ l) m = go (room-member x l) (List·Memᴰ·cases-cons m
 pub code-never-19 : (own : ℕ) → own < 16 → (out : List ℕ) → highLength ≤ length out → (ws : List ℕ) → SoundTable ws
     → ((room : ℕ) → room < roomCount → tableOf ws room ≡ fresh own) → (ts : List WordsTurn)
     → Every (λ t. Below 256 (bytesIn t)) ts
-    → Every (λ b. (t : Table) (output : ℕ) → stepTable t b output .refusal ≡ 19 → ⊥)
+    → Every (λ b. (office : ℕ) (t : Table) (output : ℕ) → stepTable office t b output .refusal ≡ 19 → ⊥)
     (bytesLeft own out (record { words = ws; file = [] }) ts)
 code-never-19 own lt out long ws s f ts e =
     rw (code-left own lt out long ws s f ts) (every-mapped roomBytes (every-in left never))
@@ -118,11 +97,14 @@ code-never-19 own lt out long ws s f ts e =
           never-used own lt 0 (turns room) p j,
         )
 
-    never : (x : Roomed Written) → List·Memᴰ x left → (t : Table) (output : ℕ)
-        → stepTable t (roomBytes x) output .refusal ≡ 19 → ⊥
-    never x i t output r =
-        let y = table-19 t (roomBytes x) output r in
-        let l : x .room < roomCount = let z = bytes-room (x .room) (x .what) in omega (arith, y .0) in
-        written-never-19 (t (roomOf (roomBytes x))) (x .room) (x .what) output
+    never : (x : Roomed Written) → List·Memᴰ x left → (office : ℕ) (t : Table) (output : ℕ)
+        → stepTable office t (roomBytes x) output .refusal ≡ 19 → ⊥
+    never x i office t output r =
+        let b = roomBytes x in
+        let s = t (roomOf b) in
+        let y = table-19 office t b output r in
+        let a = read-facts b .0 (read-19 office s b output y) .1 in
+        let l : x .room < roomCount = let z = bytes-room (x .room) (x .what) in omega (arith, a) in
+        written-never-19 office s (x .room) (x .what) output
         (λ p q. good (x .room) l p (subst (λ (w : Written). List·Memᴰ w (ofRoom (x .room) left)) q
-        (room-member x left i))) (y .1)
+        (room-member x left i))) y

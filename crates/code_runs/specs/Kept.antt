@@ -7,7 +7,8 @@ use lib.ListN.{take}
 use lib.Dec.{eqb}
 use Rattle.laws.specs.Upd.{ifb}
 use Rattle.records.specs.Layout.{roomOf}
-use Rattle.rules.specs.Refusals.{readCheck, Event, aReport, eventOf, allBytes}
+use Rattle.rules.specs.Refusals.{readCheck, eventOf, allBytes}
+use Rattle.rules.specs.Tables.{noEvent}
 use Rattle.rooms.specs.Handing.{Handed as RoomHanded}
 use Rattle.rooms.specs.Server.{ServerTurn, servesAll, stopsAfter}
 use Rattle.restart.specs.Caller.{Move, callerMoves, filedBy, sentBy}
@@ -58,14 +59,12 @@ module _ (own : ℕ) (out : List ℕ) where
 
 -- What the rules are handed for it. Bytes that fail checks 4, 5 and 20 hold no event; they do what a report without
 -- output does, nothing.
-abbrev pub emptyReport : Event
-emptyReport = aReport (record { joining = record { bits = 0 }; leaving = record { bits = 0 } })
-
 abbrev pub readHanded : Handed → RoomHanded
 readHanded h =
     let readable = eqb (readCheck (h .bytes)) 0 in
     record {
-      event = record { room = roomOf (h .bytes); what = ifb readable (eventOf (h .bytes)) emptyReport };
+      office = h .office;
+      event = record { room = roomOf (h .bytes); what = ifb readable (eventOf (h .bytes)) (noEvent .what) };
       output = ifb readable (h .output) 0;
     }
 

@@ -5,18 +5,20 @@ use lib.Dec.{eqb}
 use Rattle.laws.specs.Upd.{ifb}
 use Rattle.records.specs.Layout.{roomOf}
 use Rattle.rules.specs.Rules.{Written}
-use Rattle.rules.specs.Refusals.{readCheck, eventOf}
+use Rattle.rules.specs.Refusals.{readCheck}
+use Rattle.rules.specs.Tables.{eventIn as readEvent}
 use Rattle.rooms.specs.Roomed.{Roomed, roomed}
 use Rattle.rooms.specs.Handing.{Handed as RoomHanded}
 use Rattle.step.specs.Step.{WordsResult, stepWords}
 
--- bytes handed to the step, and an output of length output
+-- what is handed to the step: the office that the record is read for, its bytes, and an output of length output
 pub record Handed : Type 0 where
+  pub office : ℕ
   pub bytes : List ℕ
   pub output : ℕ
 
 abbrev pub wordsAnswer : List ℕ → Handed → WordsResult
-wordsAnswer ws h = stepWords ws (h .bytes) (h .output)
+wordsAnswer ws h = stepWords (h .office) ws (h .bytes) (h .output)
 
 -- the words after the run; and all that was written, in order, with the room of the record that it answers
 unfoldable pub wordsAfter : List ℕ → List Handed → List ℕ
@@ -28,9 +30,9 @@ wordsSent ws [] = []
 wordsSent ws (h ∷ hs) =
     roomed (roomOf (h .bytes)) (wordsAnswer ws h .written) ++ wordsSent (wordsAnswer ws h .words) hs
 
--- what the table was handed: the events of the records; bytes that fail checks 4, 5 and 20 hold none
+-- what the table was handed: the event of each record, for its office; bytes that fail checks 4, 5 and 20 hold none
 abbrev pub eventIn : Handed → RoomHanded
-eventIn h = record { event = record { room = roomOf (h .bytes); what = eventOf (h .bytes) }; output = h .output }
+eventIn h = record { office = h .office; event = readEvent (h .bytes); output = h .output }
 
 unfoldable pub eventsOf : List Handed → List RoomHanded
 eventsOf [] = []

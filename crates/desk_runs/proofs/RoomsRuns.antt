@@ -2,16 +2,14 @@
 -- is for the seat, in every room, whatever it hears of the other rooms in between; and its sync records count, per
 -- room.
 use mathlib.Core.Path.{_≡_, refl, ap}
-use mathlib.Core.Bool.{Bool, true, false, not}
+use mathlib.Core.Bool.{Bool, true, false}
 use mathlib.Core.List.{List, [], _∷_, _++_, map}
 use Prim.Native.Nat.{ℕ, zero, suc, _<_}
 use native.Mathlib.Omega.{arith}
 use native.Mathlib.Decide.{ℕ-discrete, decLt}
-use lib.Dec.{eqb, ltb}
 use lib.ListN.{take}
 use borrow.Author.Tests.{le-leb, eq-eqb, ne-eqb}
 use Rattle.laws.specs.Lists.{Every, none, more}
-use Rattle.laws.specs.Upd.{ifb}
 use Rattle.laws.proofs.Lists.{_then_, every-append}
 use Rattle.seats.specs.Seats.{seatCount}
 use Rattle.seats.specs.Offices.{officeOf}
@@ -21,12 +19,13 @@ use Rattle.records.proofs.RoundTrip.{notice-room, proposal-room, view-room}
 use Rattle.records.specs.declared.View.{View}
 use Rattle.rules.specs.Rules.{Written, notice, proposal, view, fresh}
 use Rattle.rules.specs.Leaving.{actionsFrom, leftIn}
-use Rattle.rules.specs.Refusals.{bytesOf, fullRoom, actOf}
-use Rattle.rules.specs.Tables.{Table, freshTable, wellTable, RoomEvent, TableResult, refusedTable, inTable, barred}
-use Rattle.rules.specs.Tables.{takeTable}
-use Rattle.runs.specs.Office.{Input, OfSeats, logOf, sentIn}
+use Rattle.rules.specs.Refusals.{bytesOf}
+use Rattle.rules.specs.Tables.{Table, freshTable, RoomEvent, roomCheck, takeTable}
+use Rattle.rule_laws.proofs.Steps.{reading-facts}
+use Rattle.rule_laws.proofs.Tables.{take-table-by}
+use Rattle.runs.specs.Office.{OfSeats, logOf, sentIn}
 use Rattle.rooms.specs.Roomed.{Roomed, roomed, ofRoom, roomBytes}
-use Rattle.rooms.specs.Handing.{Handed, answerTable, nextTable, tableSent, inputOf, inputsIn}
+use Rattle.rooms.specs.Handing.{Handed, answerTable, nextTable, tableSent, inputsIn}
 use Rattle.rooms.specs.Server.{Server, ServerTurn, servesAll, stopsAfter, servedAt, doneBy, nextServer, freshServer}
 use Rattle.rooms.specs.Server.{serverLeft, turnsIn}
 use Rattle.rooms.proofs.Isolation.{room-run, inputs-every}
@@ -100,30 +99,21 @@ all-in room l [] = none
 all-in room l (w ∷ ws) = more l (all-in room l ws)
 
 -- an event of no room sends nothing
-none-written : (t : Table) (e : RoomEvent) (output : ℕ) → (e .room < roomCount → ⊥)
-    → takeTable t e output .written ≡ []
-unfolding takeTable barred
-none-written t e output n =
-    rw (le-leb roomCount (e .room) (omega arith))
-    (go (wellTable t) (ltb output fullRoom) (inTable t (e .room) (actOf (t (e .room)) (e .what))))
-  where
-    first : Bool → Bool → ℕ
-    first w s = ifb (not w) 2 (ifb s 3 20)
-
-    go : (w s : Bool) (q : TableResult)
-        → ifb (eqb (first w s) 0) q (refusedTable (first w s) t) .written ≡ []
-    go true true q = refl
-    go true false q = refl
-    go false s q = refl
+none-written : (office : ℕ) (t : Table) (e : RoomEvent) (output : ℕ) → (e .room < roomCount → ⊥)
+    → takeTable office t e output .written ≡ []
+none-written office t e output n = take-table-by t e output office (λ q. q .written ≡ []) (λ d. refl) (λ z. absurd (
+    let f = reading-facts office (roomCheck (e .room)) (e .what) .0 z .1 in
+    let g : roomCheck (e .room) ≡ 20 = rw (le-leb roomCount (e .room) (omega arith)) in
+    omega arith))
 
 answer-in : (t : Table) (h : Handed) → InRooms (roomed (h .event .room) (answerTable t h .written))
 unfolding answerTable
 answer-in t h = go (decLt (h .event .room) roomCount)
   where
     go : Dec (h .event .room < roomCount)
-        → InRooms (roomed (h .event .room) (takeTable t (h .event) (h .output) .written))
-    go (yes l) = all-in (h .event .room) l (takeTable t (h .event) (h .output) .written)
-    go (no n) = rw (none-written t (h .event) (h .output) n) none
+        → InRooms (roomed (h .event .room) (takeTable (h .office) t (h .event) (h .output) .written))
+    go (yes l) = all-in (h .event .room) l (takeTable (h .office) t (h .event) (h .output) .written)
+    go (no n) = rw (none-written (h .office) t (h .event) (h .output) n) none
 
 sent-in : (t : Table) (hs : List Handed) → InRooms (tableSent t hs)
 unfolding tableSent
@@ -133,8 +123,8 @@ sent-in t (h ∷ hs) = every-append (answer-in t h) (sent-in (nextTable t h) hs)
 -- nor does a server that is handed it, cut off or not
 done-none : (s : Server) (u : ServerTurn) → (servedAt u .event .room < roomCount → ⊥) → leftIn (doneBy s u) ≡ []
 unfolding doneBy answerTable actionsFrom leftIn
-done-none s (servesAll h) n = rw (none-written (s .table) (h .event) (h .output) n)
-done-none s (stopsAfter h k) n = rw (none-written (s .table) (h .event) (h .output) n) (no-more k)
+done-none s (servesAll h) n = rw (none-written (h .office) (s .table) (h .event) (h .output) n)
+done-none s (stopsAfter h k) n = rw (none-written (h .office) (s .table) (h .event) (h .output) n) (no-more k)
   where
     no-more : (k : ℕ) → leftIn (take k []) ≡ []
     no-more zero = refl
@@ -168,7 +158,8 @@ module _ (seat : ℕ) (lt : seat < seatCount) where
       run-is = room-run room in-room (freshTable own) (fresh-served own own-lt room in-room .passes) hs .sent
 
       alone : Every (λ h. h .refusal ≡ 0) (hearings room (freshDesk seat) (sentTo seat (ofRoom room sent)))
-      alone = rw run-is (every-accepted room in-room seat lt (inputsIn room hs) (inputs-every room (λ i. OfSeats (i .event)) hs y))
+      alone = rw run-is
+          (every-accepted room in-room seat lt (inputsIn room hs) (inputs-every room (λ i. OfSeats (i .event)) hs y))
 
       -- every record sent to the seat in a room is accepted, whatever the desk hears of the other rooms
       pub room-accepts : (heard : List (List ℕ))
@@ -183,8 +174,8 @@ module _ (seat : ℕ) (lt : seat < seatCount) where
           → heardIn room heard ≡ map (bytesOf room) before → SyncIn room seat heard v
       room-syncs heard before later v e h =
           sync-for room seat heard before h in-room v
-          (sync-counts room in-room seat lt (inputsIn room hs) (inputs-every room (λ i. OfSeats (i .event)) hs y) before later v
-          (rw run-is at e))
+          (sync-counts room in-room seat lt (inputsIn room hs) (inputs-every room (λ i. OfSeats (i .event)) hs y)
+          before later v (rw run-is at e))
 
     -- so are all that are sent to the seat, in the order sent, the rooms interleaved as they come
     pub desk-accepts : Every (λ h. h .refusal ≡ 0)

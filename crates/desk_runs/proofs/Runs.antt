@@ -30,7 +30,7 @@ module _ (room : ℕ) (in-room : room < roomCount) (seat : ℕ) (lt : seat < sea
       → Beside-it d (answerTo s h .written) (nextState s h)
   unfolding answerTo
   next-heard d s h y f =
-      take-by s (h .event) (h .room) (Beside-it d) (record { then = d; told = at-end; holds = f })
+      take-by (h .office) s (h .event) (h .room) (Beside-it d) (record { then = d; told = at-end; holds = f })
       (λ a. event-follows room in-room seat lt d s (h .event) y (a .acts .passes) (a .acts .within) f)
 
   -- from any state that the seat follows; a fresh start is not needed

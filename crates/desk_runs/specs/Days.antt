@@ -42,7 +42,7 @@ three a b c = a ∷ b ∷ c ∷ tab 13 (λ o. 0)
 
 -- what is handed to office 0: a report, and a fast proposal of office 1
 abbrev handed : List ℕ → Input
-handed b = record { event = eventOf b; room = fullRoom }
+handed b = record { office = 0; event = eventOf b; room = fullRoom }
 
 abbrev reports : ℕ → ℕ → Input
 reports joining leaving =

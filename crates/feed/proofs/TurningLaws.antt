@@ -14,9 +14,7 @@ use Rattle.laws.proofs.Fin.{true-false}
 use Rattle.laws.specs.Lists.{none, more}
 use Rattle.records.specs.Run.{runCheck}
 use Rattle.records.specs.Layout.{roomOf}
-use Rattle.rules.specs.Tables.{wellTable}
-use Rattle.row.specs.Table.{tableOf, SoundTable}
-use Rattle.row.proofs.Tables.{sound-table}
+use Rattle.row.specs.Table.{tableOf}
 use Rattle.text.specs.Lines.{frontOf, behindOf, answerFor, lineFor}
 use Rattle.feed.specs.TurnReady.{TurnReady}
 use Rattle.buffers.specs.Place.{Within, windowOf, unwrittenOf, waitsOf, Refilled}
@@ -48,14 +46,17 @@ same-stand : {ws : List ℕ} {ended ended′ : Bool} {n n′ : ℕ} {w w′ u u�
     (record { words = ws; ended = ended′; number = n′; window = w′; unwritten = u′ })
 same-stand e n w u = rw (e, n, w, u)
 
-module _ (traced : Bool) {ws : List ℕ} (p : Place) (i o : List ℕ) (sound : SoundTable ws) (in-place : Within p) where
+module _ (traced : Bool) (office : ℕ) {ws : List ℕ} (p : Place) (i : List ℕ) {out : List ℕ} (o : List ℕ)
+    (begins : TurnReady office ws p i out o) where
   -- more of the input
   pub advances-read : {i′ : List ℕ} {r : Grown} → waitsOf (p .ended) (windowOf p i) ≡ true → Refilled p i r i′
-      → Advances traced ws p i o (record { more = not (r .unread); unread = r .unread; place = r .place }) ws i′ o
+      → Advances traced office ws p i o
+      (record { more = not (r .unread); unread = r .unread; place = r .place }) ws i′ o
   unfolding unwrittenOf flatten
   advances-read {i′} {r} t h = record {
     within = h .within;
-    sound = sound;
+    sound = begins .lent .sound;
+    own = begins .lent .own;
     number = omega (arith, h .number);
     unread = λ y. (
       t,
@@ -105,17 +106,18 @@ module _ (traced : Bool) {ws : List ℕ} (p : Place) (i o : List ℕ) (sound : S
 
   -- nothing is left, and nothing comes
   pub advances-stop : waitsOf (p .ended) (windowOf p i) ≡ false → length (windowOf p i) ≡ 0
-      → Advances traced ws p i o (record { more = false; unread = false; place = p }) ws i o
+      → Advances traced office ws p i o (record { more = false; unread = false; place = p }) ws i o
   advances-stop t h = record {
-    within = in-place;
-    sound = sound;
+    within = begins .within;
+    sound = begins .lent .sound;
+    own = begins .lent .own;
     number = omega arith;
     unread = λ y. absurd (true-false false y refl);
     keeps = λ y. record {
       got = [];
       printed = [];
       buffer = sym (append-nil (unwrittenOf p o));
-      text = λ f e. lines-nil traced (tableOf ws) (p .number) (windowOf p i ++ f)
+      text = λ f e. lines-nil traced office (tableOf ws) (p .number) (windowOf p i ++ f)
           (rw (e ended, append-nil (windowOf p i)) h);
       takes = λ m. absurd (true-false false m refl);
       end = λ e. (e, refl);
@@ -135,27 +137,29 @@ module _ (traced : Bool) {ws : List ℕ} (p : Place) (i o : List ℕ) (sound : S
           go (ready (inr e) f) = absurd (omega (arith, e .0))
 
   -- the record in front
-  pub advances-answer : {ws′ o′ : List ℕ} {r : Advanced} → length i ≡ bufferLength
-      → waitsOf (p .ended) (windowOf p i) ≡ false → 0 < length (windowOf p i)
-      → Answered traced ws p (frontOf (windowOf p i)) o r ws′ o′ → Advances traced ws p i o r ws′ i o′
+  pub advances-answer : {ws′ o′ : List ℕ} {r : Advanced} → waitsOf (p .ended) (windowOf p i) ≡ false
+      → 0 < length (windowOf p i)
+      → Answered traced office ws p (frontOf (windowOf p i)) o r ws′ o′
+      → Advances traced office ws p i o r ws′ i o′
   unfolding flatten
-  advances-answer {ws′} {o′} {r} li t h a = record {
+  advances-answer {ws′} {o′} {r} t h a = record {
     within = record {
       unread = omega (arith, a .at, a .end, l);
-      read = omega (arith, a .end, in-place .read);
+      read = omega (arith, a .end, begins .within .read);
       unwritten = a .filled;
     };
     sound = a .sound;
+    own = a .own;
     number = omega (arith, a .number);
     unread = λ y. absurd (true-false (r .unread) y (a .unread));
     keeps = λ u. record {
       got = [];
-      printed = lineFor traced (p .number + 1) (roomOf (frontOf v)) (answerFor (tableOf ws) v);
+      printed = lineFor traced (p .number + 1) (roomOf (frontOf v)) (answerFor office (tableOf ws) v);
       buffer = a .line;
-      text = λ f z. decided-text traced (tableOf ws) (p .number) well v f h (decided f z)
+      text = λ f z. decided-text traced office (tableOf ws) (p .number) (begins .lent .known) v f h (decided f z)
           ∙ rw (left, a .more, a .number, a .table);
       takes = λ m.
-          let k = came-whole traced (tableOf ws) (p .number) well v h (sym (a .more) ∙ m) in
+          let k = came-whole traced office (tableOf ws) (p .number) (begins .lent .known) v h (sym (a .more) ∙ m) in
           let e : frontOf v ++ [] ≡ frontOf v = append-nil (frontOf v) in
           record {
             parts = frontOf v ∷ [];
@@ -175,14 +179,12 @@ module _ (traced : Bool) {ws : List ℕ} (p : Place) (i o : List ℕ) (sound : S
       v : List ℕ
       v = windowOf p i
 
-      well : wellTable (tableOf ws) ≡ true
-      well = sound-table ws sound
-
       l : p .at + length (frontOf v) ≤ p .end
-      l = front-fits p i li in-place refl
+      l = front-fits p i (begins .lent .input) (begins .within) refl
 
       left : windowOf (r .place) i ≡ behindOf v
-      left = window-left p (r .place) i (frontOf v) (behindOf v) (in-place .unread) (rw li (in-place .read))
+      left = window-left p (r .place) i (frontOf v) (behindOf v) (begins .within .unread)
+          (rw (begins .lent .input) (begins .within .read))
           (sym (front-behind v)) (a .at) (a .end)
 
       decided : (f : List ℕ) → (r .place .ended ≡ true → f ≡ []) → Decided v f
@@ -199,28 +201,30 @@ module _ (traced : Bool) {ws : List ℕ} (p : Place) (i o : List ℕ) (sound : S
           go (ready (inl d) f) = last (z (a .ended ∙ d))
           go (ready (inr d) f) = by-front (d .0) (d .1) (front v)
 
-keeps-from : {traced more : Bool} {ws ws′ : List ℕ} {ended before ended′ : Bool} {n m n′ : ℕ} {w v w′ u t u′ : List ℕ}
-    → ended ≡ before → n ≡ m → w ≡ v → u ≡ t → Keeps traced ws ended n w u more ws′ ended′ n′ w′ u′
-    → Keeps traced ws before m v t more ws′ ended′ n′ w′ u′
+keeps-from : {traced more : Bool} {office : ℕ} {ws ws′ : List ℕ} {ended before ended′ : Bool} {n m n′ : ℕ}
+    {w v w′ u t u′ : List ℕ}
+    → ended ≡ before → n ≡ m → w ≡ v → u ≡ t → Keeps traced office ws ended n w u more ws′ ended′ n′ w′ u′
+    → Keeps traced office ws before m v t more ws′ ended′ n′ w′ u′
 keeps-from e n w u k = rw (e, n, w, u) at k
 
 -- after a write a turn is as ready as before, and its window is the same
-pub sent-ready : {ws : List ℕ} {p q : Place} {waiting : Bool} (i : List ℕ) {out : List ℕ} (o : List ℕ) {o₁ : List ℕ}
-    → TurnReady ws p i out o
-    → Emptied p waiting o q o₁ → length o₁ ≡ length o
-    → TurnReady ws q i out o₁ × (waitsOf (p .ended) (windowOf p i) ≡ waitsOf (q .ended) (windowOf q i))
+pub sent-ready : {office : ℕ} {ws : List ℕ} {p q : Place} {waiting : Bool} (i : List ℕ) {out : List ℕ} (o : List ℕ)
+    {o₁ : List ℕ} → TurnReady office ws p i out o → Emptied p waiting o q o₁ → length o₁ ≡ length o
+    → TurnReady office ws q i out o₁ × (waitsOf (p .ended) (windowOf p i) ≡ waitsOf (q .ended) (windowOf q i))
 unfolding windowOf
-sent-ready {ws} {p} {q} i {out} o {o₁} r h lo = go (p .filled - q .filled) (h .place)
+sent-ready {office} {ws} {p} {q} i {out} o {o₁} r h lo = go (p .filled - q .filled) (h .place)
   where
     w : Within p
     w = r .within
 
     go : (sent : ℕ) → q ≡ sentFrom p sent
-        → TurnReady ws q i out o₁ × (waitsOf (p .ended) (windowOf p i) ≡ waitsOf (q .ended) (windowOf q i))
+        → TurnReady office ws q i out o₁ × (waitsOf (p .ended) (windowOf p i) ≡ waitsOf (q .ended) (windowOf q i))
     go sent e = rw e (
       record {
         lent = record {
+          known = r .lent .known;
           sound = r .lent .sound;
+          own = r .lent .own;
           input = r .lent .input;
           room = r .lent .room;
           output = lo ∙ r .lent .output;
@@ -254,15 +258,16 @@ module _ (p q : Place) (o o₁ : List ℕ) (in-place : Within p) (lo : length o 
   sent-stand : (ws i : List ℕ) → standAt ws q i o₁ ≡ sentAt sent (standAt ws p i o)
   sent-stand ws i = same-stand same-ended same-number (same-window i) (h .unwritten)
 
-  pub turns-on : (traced : Bool) {ws : List ℕ} (i : List ℕ) {i′ o′ ws′ : List ℕ} {r : Advanced}
+  pub turns-on : (traced : Bool) (office : ℕ) {ws : List ℕ} (i : List ℕ) {i′ o′ ws′ : List ℕ} {r : Advanced}
       → waiting ≡ waitsOf (p .ended) (windowOf p i)
-      → roomFor (q .filled) waiting ≡ true → Advances traced ws q i o₁ r ws′ i′ o′
-      → Turns traced ws p i o
+      → roomFor (q .filled) waiting ≡ true → Advances traced office ws q i o₁ r ws′ i′ o′
+      → Turns traced office ws p i o
       (record { more = r .more; failed = false; unread = r .unread; sent = sent; place = r .place }) ws′ i′ o′
   unfolding unwrittenOf
-  turns-on traced {ws} i e room a = record {
+  turns-on traced office {ws} i e room a = record {
     within = a .within;
     sound = a .sound;
+    own = a .own;
     number = omega (arith, a .number, same-number);
     sent = omega (arith, unwritten-length);
     unasked = λ z. let n = h .unasked (rw e z) in omega arith;
@@ -278,13 +283,15 @@ module _ (p q : Place) (o o₁ : List ℕ) (in-place : Within p) (lo : length o 
       none : waitsOf (p .ended) (windowOf p i) ≡ true → unwrittenOf q o₁ ≡ []
       none t = nothing-due o₁ (q .filled) (room-none (q .filled) waiting room (e ∙ t))
 
-  pub turns-failed : (traced : Bool) {ws : List ℕ} (i : List ℕ) → waiting ≡ waitsOf (p .ended) (windowOf p i)
-      → SoundTable ws → Within q → (roomFor (q .filled) waiting ≡ true → ⊥)
-      → Turns traced ws p i o
+  pub turns-failed : (traced : Bool) (office : ℕ) {ws : List ℕ} (i : List ℕ) {out : List ℕ}
+      → waiting ≡ waitsOf (p .ended) (windowOf p i) → TurnReady office ws q i out o₁
+      → (roomFor (q .filled) waiting ≡ true → ⊥)
+      → Turns traced office ws p i o
       (record { more = true; failed = true; unread = false; sent = sent; place = q }) ws i o₁
-  turns-failed traced {ws} i e sound there room = record {
-    within = there;
-    sound = sound;
+  turns-failed traced office {ws} i e begins room = record {
+    within = begins .within;
+    sound = begins .lent .sound;
+    own = begins .lent .own;
     number = omega (arith, same-number);
     sent = omega (arith, unwritten-length);
     unasked = λ z. let n = h .unasked (rw e z) in omega arith;

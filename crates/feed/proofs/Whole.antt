@@ -12,6 +12,7 @@ use Rattle.laws.specs.Upd.{ifb}
 use Rattle.laws.proofs.Lists.{every-append, flatten-append}
 use Rattle.records.specs.Layout.{checkOf}
 use Rattle.row.specs.Table.{tableOf, SoundTable}
+use Rattle.step.specs.Held.{OfOffice}
 use Rattle.text.specs.Lines.{linesOf, textOf}
 use Rattle.text.proofs.LineLaws.{lines-nil}
 use Rattle.records.proofs.RunLaws.{ends}
@@ -24,8 +25,9 @@ use Rattle.buffers.proofs.Window.{waits-none}
 use Rattle.feed.specs.declared.turning.Turned.{Turned}
 
 -- what is due at a place, where f is still to come
-abbrev due : Bool → Bool → Stand → List ℕ → List ℕ
-due traced more b f = b .unwritten ++ ifb more (linesOf traced (tableOf (b .words)) (b .number) (b .window ++ f)) []
+abbrev due : Bool → ℕ → Bool → Stand → List ℕ → List ℕ
+due traced office more b f =
+    b .unwritten ++ ifb more (linesOf traced office (tableOf (b .words)) (b .number) (b .window ++ f)) []
 
 regroup : (o t r p x : List ℕ) → o ++ ((t ++ r) ++ (p ++ x)) ≡ (o ++ t) ++ ((r ++ p) ++ x)
 regroup o t r p x = simp append-assoc
@@ -34,49 +36,50 @@ regroup′ : (o t r p x : List ℕ) → (o ++ (t ++ r)) ++ (p ++ x) ≡ ((o ++ t
 regroup′ o t r p x = simp append-assoc
 
 -- whatever comes later, what was written and what is due are the text for the input
-run-text : {traced more : Bool} {n : ℕ} {ws input output : List ℕ} {b : Stand}
-    → Run traced ws n input output more b
+run-text : {traced more : Bool} {office n : ℕ} {ws input output : List ℕ} {b : Stand}
+    → Run traced office ws n input output more b
     → (f : List ℕ) → (b .ended ≡ true → f ≡ [])
-    → linesOf traced (tableOf ws) 0 (input ++ f) ≡ output ++ due traced more b f
+    → linesOf traced office (tableOf ws) 0 (input ++ f) ≡ output ++ due traced office more b f
 run-text begun f e = refl
-run-text {traced} {ws = ws} (turned {n} {input} {output} {a} sent {more} {b} r k) f e =
+run-text {traced} {office = office} {ws = ws} (turned {n} {input} {output} {a} sent {more} {b} r k) f e =
     rw (append-assoc input (k .got) f) (run-text r (k .got ++ f) later
     ∙ rw (k .text f e, k .buffer)
     (ap (λ (u : List ℕ). output ++ (u ++ (k .printed ++ rest))) (sym (take-append-drop sent (a .unwritten)))
     ∙ regroup output (take sent (a .unwritten)) (drop sent (a .unwritten)) (k .printed) rest))
   where
     rest : List ℕ
-    rest = ifb more (linesOf traced (tableOf (b .words)) (b .number) (b .window ++ f)) []
+    rest = ifb more (linesOf traced office (tableOf (b .words)) (b .number) (b .window ++ f)) []
 
     later : a .ended ≡ true → k .got ++ f ≡ []
     later h = let z = k .end h in rw (z .1, e (z .0))
 
 -- where the program stops, what was written and what is unwritten are the whole text, whatever of the input is unread
 pub whole-text : {traced : Bool} {office n : ℕ} {ws input output : List ℕ} {b : Stand} → TableMade office true ws
-    → Run traced ws n input output false b
+    → Run traced office ws n input output false b
     → (f : List ℕ) → (b .ended ≡ true → f ≡ []) → textOf traced (office ∷ (input ++ f)) ≡ output ++ b .unwritten
 whole-text {traced} {office} {ws} {input} {output} {b} m r f e =
     m .text traced (input ++ f) ∙ run-text r f e ∙ rw (append-nil (b .unwritten))
 
 -- what has been answered so far, whatever comes behind it
-record Sofar (traced : Bool) (ws input output : List ℕ) (b : Stand) : Type 0 where
+record Sofar (traced : Bool) (office : ℕ) (ws input output : List ℕ) (b : Stand) : Type 0 where
   parts : List (List ℕ)
   whole : Every (λ p. checkOf p ≡ 0) parts
   count : b .number ≡ length parts
   read : input ≡ flatten parts ++ b .window
-  lines : (f : List ℕ) → linesOf traced (tableOf ws) 0 (flatten parts ++ f)
-      ≡ (output ++ b .unwritten) ++ linesOf traced (tableOf (b .words)) (b .number) f
+  lines : (f : List ℕ) → linesOf traced office (tableOf ws) 0 (flatten parts ++ f)
+      ≡ (output ++ b .unwritten) ++ linesOf traced office (tableOf (b .words)) (b .number) f
 
-run-sofar : {traced more : Bool} {n : ℕ} {ws input output : List ℕ} {b : Stand} → Run traced ws n input output more b
-    → more ≡ true → Sofar traced ws input output b
+run-sofar : {traced more : Bool} {office n : ℕ} {ws input output : List ℕ} {b : Stand}
+    → Run traced office ws n input output more b → more ≡ true → Sofar traced office ws input output b
 unfolding flatten
 run-sofar begun m = record { parts = []; whole = none; count = refl; read = refl; lines = λ f. refl }
-run-sofar {traced} {ws = ws} (turned {n} {input} {output} {a} sent {more} {b} r k) m =
+run-sofar {traced} {office = office} {ws = ws} (turned {n} {input} {output} {a} sent {more} {b} r k) m =
     go (run-sofar r refl) (k .takes m)
   where
-    go : Sofar traced ws input output a
-        → Takes traced (a .words) (a .number) (a .window ++ k .got) (k .printed) (b .words) (b .number) (b .window)
-        → Sofar traced ws (input ++ k .got) (output ++ take sent (a .unwritten)) b
+    go : Sofar traced office ws input output a
+        → Takes traced office (a .words) (a .number) (a .window ++ k .got) (k .printed) (b .words) (b .number)
+        (b .window)
+        → Sofar traced office ws (input ++ k .got) (output ++ take sent (a .unwritten)) b
     go s t = record {
       parts = s .parts ++ t .parts;
       whole = every-append (s .whole) (t .whole);
@@ -85,8 +88,8 @@ run-sofar {traced} {ws = ws} (turned {n} {input} {output} {a} sent {more} {b} r 
           ∙ ap (λ (l : List ℕ). flatten (s .parts) ++ l) (t .left)
           ∙ sym (append-assoc (flatten (s .parts)) (flatten (t .parts)) (b .window))
           ∙ ap (λ (l : List ℕ). l ++ b .window) (sym both);
-      lines = λ f. ap (λ (l : List ℕ). linesOf traced (tableOf ws) 0 (l ++ f)) both
-          ∙ ap (linesOf traced (tableOf ws) 0) (append-assoc (flatten (s .parts)) (flatten (t .parts)) f)
+      lines = λ f. ap (λ (l : List ℕ). linesOf traced office (tableOf ws) 0 (l ++ f)) both
+          ∙ ap (linesOf traced office (tableOf ws) 0) (append-assoc (flatten (s .parts)) (flatten (t .parts)) f)
           ∙ s .lines (flatten (t .parts) ++ f) ∙ ap (λ (l : List ℕ). (output ++ a .unwritten) ++ l) (t .lines f)
           ∙ rw (k .buffer)
           (ap (λ (u : List ℕ). (output ++ u) ++ (k .printed ++ after f)) (sym (take-append-drop sent (a .unwritten)))
@@ -97,11 +100,11 @@ run-sofar {traced} {ws = ws} (turned {n} {input} {output} {a} sent {more} {b} r 
         both = flatten-append (s .parts) (t .parts)
 
         after : List ℕ → List ℕ
-        after f = linesOf traced (tableOf (b .words)) (b .number) f
+        after f = linesOf traced office (tableOf (b .words)) (b .number) f
 
 -- where the program goes on, it has answered records that came whole, and nothing else
 pub going-text : {traced : Bool} {office n : ℕ} {ws input output : List ℕ} {b : Stand} → TableMade office true ws
-    → Run traced ws n input output true b → Answers traced office input output b
+    → Run traced office ws n input output true b → Answers traced office input output b
 going-text {traced} {office} {ws} {input} {output} {b} m r =
     let s = run-sofar r refl in
     record {
@@ -110,14 +113,15 @@ going-text {traced} {office} {ws} {input} {output} {b} m r =
       count = s .count;
       read = s .read;
       text = m .text traced (flatten (s .parts))
-          ∙ ap (linesOf traced (tableOf ws) 0) (sym (append-nil (flatten (s .parts)))) ∙ s .lines []
-          ∙ rw (lines-nil traced (tableOf (b .words)) (b .number) [] refl) (append-nil (output ++ b .unwritten));
+          ∙ ap (linesOf traced office (tableOf ws) 0) (sym (append-nil (flatten (s .parts)))) ∙ s .lines []
+          ∙ rw (lines-nil traced office (tableOf (b .words)) (b .number) [] refl)
+          (append-nil (output ++ b .unwritten));
       rest = λ t. ends (b .window) (waits-none (b .ended) (b .window) t);
     }
 
 -- so it is where a fault has ended the run; where a read failed, all is written
 pub fault-text : {traced unread : Bool} {office : ℕ} {ws : List ℕ} {b : Stand} → TableMade office true ws
-    → (k : Broken traced ws unread b)
+    → (k : Broken traced office ws unread b)
     → Answers traced office (k .input) (writtenBy k) b × (unread ≡ true → b .unwritten ≡ [])
 fault-text {b = b} m k =
     let a = going-text m (k .run) in
@@ -136,12 +140,13 @@ fault-text {b = b} m k =
     )
 
 -- the loop begins, and a turn goes on
-pub ran-begun : (traced : Bool) {ws : List ℕ} (i o : List ℕ) → SoundTable ws
-    → Ran traced ws ws (record { ended = false; at = 0; end = 0; filled = 0; number = 0 }) i o true false false
+pub ran-begun : (traced : Bool) {office : ℕ} {ws : List ℕ} (i o : List ℕ) → SoundTable ws → OfOffice office ws
+    → Ran traced office ws ws (record { ended = false; at = 0; end = 0; filled = 0; number = 0 }) i o true false false
     (2 ^ 64 - 1)
 unfolding windowOf unwrittenOf
-ran-begun traced i o sound = record {
+ran-begun traced i o sound own = record {
   sound = sound;
+  own = own;
   within = record { unread = omega arith; read = omega arith; unwritten = omega arith };
   number = omega arith;
   reached = λ f u. record { turns = 0; input = []; output = []; run = begun; counted = λ m. omega arith };
@@ -161,13 +166,14 @@ pub left-less : (more failed : Bool) (left left′ : ℕ) → 0 < left → left�
 left-less more failed left left′ h e =
     ⊎-elim (λ z. omega (arith, z .2)) (λ z. omega (arith, z .1)) (left-cases more failed left left′ e)
 
-pub ran-turned : {traced more failed unread : Bool} {ws₀ ws ws′ : List ℕ} {p : Place} {i o i′ o′ : List ℕ}
-    {left left′ : ℕ} {r : Turned}
-    → Ran traced ws₀ ws p i o more failed unread left → 0 < left → Turns traced ws p i o r ws′ i′ o′
+pub ran-turned : {traced more failed unread : Bool} {office : ℕ} {ws₀ ws : List ℕ} {p : Place} {i o : List ℕ}
+    {left left′ : ℕ} {r : Turned} {ws′ i′ o′ : List ℕ}
+    → Ran traced office ws₀ ws p i o more failed unread left → 0 < left → Turns traced office ws p i o r ws′ i′ o′
     → left′ ≡ ifb (r .more) (ifb (r .failed) 0 (left - 1)) 0
-    → Ran traced ws₀ ws′ (r .place) i′ o′ (r .more) (r .failed) (r .unread) left′
-ran-turned {traced} {more} {failed} {unread} {ws₀} {ws} {p = p} {i} {o} {left = left} {left′} {r} a h t e = record {
+    → Ran traced office ws₀ ws′ (r .place) i′ o′ (r .more) (r .failed) (r .unread) left′
+ran-turned {traced} {more} {failed} {unread} {office} {ws₀} {ws} {p} {i} {o} {left} {left′} {r} a h t e = record {
   sound = t .sound;
+  own = t .own;
   within = t .within;
   number = ⊎-elim (λ z. omega (arith, z .2, t .number, a .number))
       (λ z. omega (arith, z .1, t .number, a .number)) cases;
@@ -199,11 +205,13 @@ ran-turned {traced} {more} {failed} {unread} {ws₀} {ws} {p = p} {i} {o} {left 
     g : (more ≡ true) × (failed ≡ false) × (unread ≡ false)
     g = a .going h
 
-    b : Reached traced ws₀ more left (standAt ws p i o)
+    b : Reached traced office ws₀ more left (standAt ws p i o)
     b = a .reached (g .1) (g .2)
 
-    went : Run traced ws₀ (b .turns) (b .input) (b .output) true (standAt ws p i o)
-    went = subst (λ (m : Bool). Run traced ws₀ (b .turns) (b .input) (b .output) m (standAt ws p i o)) (g .0) (b .run)
+    went : Run traced office ws₀ (b .turns) (b .input) (b .output) true (standAt ws p i o)
+    went =
+        subst (λ (m : Bool). Run traced office ws₀ (b .turns) (b .input) (b .output) m (standAt ws p i o)) (g .0)
+        (b .run)
 
     -- the program goes on, so no read failed
     unbroken : (u : Bool) → r .unread ≡ u → r .more ≡ true → u ≡ false

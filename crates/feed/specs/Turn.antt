@@ -10,6 +10,7 @@ use Rattle.laws.specs.Upd.{ifb}
 use Rattle.records.specs.Layout.{checkOf}
 use Rattle.records.specs.Run.{runCheck}
 use Rattle.row.specs.Table.{tableOf, SoundTable}
+use Rattle.step.specs.Held.{OfOffice}
 use Rattle.text.specs.Lines.{frontOf, linesOf}
 use Rattle.buffers.specs.Place.{Within, windowOf, unwrittenOf, waitsOf}
 use Rattle.buffers.specs.declared.input.Place.{Place}
@@ -41,27 +42,28 @@ sentAt sent a = record {
 
 -- Records that came whole are taken off the front of b, and w′ is left; their text is what was printed, whatever f
 -- comes behind them.
-pub record Takes (traced : Bool) (ws : List ℕ) (n : ℕ) (b printed ws′ : List ℕ) (n′ : ℕ) (w′ : List ℕ) : Type 0 where
+pub record Takes (traced : Bool) (office : ℕ) (ws : List ℕ) (n : ℕ) (b printed ws′ : List ℕ) (n′ : ℕ) (w′ : List ℕ)
+    : Type 0 where
   pub parts : List (List ℕ)
   pub whole : Every (λ p. checkOf p ≡ 0) parts
   pub count : n′ ≡ n + length parts
   pub left : b ≡ flatten parts ++ w′
-  pub lines : (f : List ℕ) → linesOf traced (tableOf ws) n (flatten parts ++ f)
-      ≡ printed ++ linesOf traced (tableOf ws′) n′ f
+  pub lines : (f : List ℕ) → linesOf traced office (tableOf ws) n (flatten parts ++ f)
+      ≡ printed ++ linesOf traced office (tableOf ws′) n′ f
 
 -- The text that is due stays due. `got` was read, `printed` was put behind what is unwritten. The text for what was
 -- read and for all later bytes f, of which there are none once the input has ended, is what was printed and the text
 -- for the rest; where the program stops, nothing more is due.
-pub record Keeps (traced : Bool) (ws : List ℕ) (ended : Bool) (n : ℕ) (w u : List ℕ) (more : Bool)
+pub record Keeps (traced : Bool) (office : ℕ) (ws : List ℕ) (ended : Bool) (n : ℕ) (w u : List ℕ) (more : Bool)
     (ws′ : List ℕ) (ended′ : Bool) (n′ : ℕ) (w′ u′ : List ℕ) : Type 0 where
   pub got : List ℕ
   pub printed : List ℕ
   pub buffer : u′ ≡ u ++ printed
   pub text : (f : List ℕ) → (ended′ ≡ true → f ≡ [])
-      → linesOf traced (tableOf ws) n (w ++ (got ++ f))
-      ≡ printed ++ ifb more (linesOf traced (tableOf ws′) n′ (w′ ++ f)) []
+      → linesOf traced office (tableOf ws) n (w ++ (got ++ f))
+      ≡ printed ++ ifb more (linesOf traced office (tableOf ws′) n′ (w′ ++ f)) []
   -- where the program goes on, each record answered came whole
-  pub takes : more ≡ true → Takes traced ws n (w ++ got) printed ws′ n′ w′
+  pub takes : more ≡ true → Takes traced office ws n (w ++ got) printed ws′ n′ w′
   pub end : ended ≡ true → (ended′ ≡ true) × (got ≡ [])
   pub number : n′ ≤ n + 1
   -- a whole record, or what the input ended with, is taken off
@@ -71,29 +73,32 @@ pub record Keeps (traced : Bool) (ws : List ℕ) (ended : Bool) (n : ℕ) (w u :
   -- where nothing is left, the program stops
   pub stops : ended ≡ true → length w ≡ 0 → more ≡ false
 
-pub record Advances (traced : Bool) (ws : List ℕ) (p : Place) (i o : List ℕ) (r : Advanced)
+pub record Advances (traced : Bool) (office : ℕ) (ws : List ℕ) (p : Place) (i o : List ℕ) (r : Advanced)
     (ws′ i′ o′ : List ℕ) : Type 0 where
   pub within : Within (r .place)
   pub sound : SoundTable ws′
+  pub own : OfOffice office ws′
   pub number : r .place .number ≤ p .number + 1
   -- a read fails only where the program waits; then all stays, and the program stops
   pub unread : r .unread ≡ true → (waitsOf (p .ended) (windowOf p i) ≡ true) × (r .more ≡ false)
       × (standAt ws′ (r .place) i′ o′ ≡ standAt ws p i o)
-  pub keeps : r .unread ≡ false → Keeps traced ws (p .ended) (p .number) (windowOf p i) (unwrittenOf p o) (r .more) ws′
+  pub keeps : r .unread ≡ false
+      → Keeps traced office ws (p .ended) (p .number) (windowOf p i) (unwrittenOf p o) (r .more) ws′
       (r .place .ended) (r .place .number) (windowOf (r .place) i′) (unwrittenOf (r .place) o′)
 
 -- A turn writes the first `sent` bytes of what is unwritten, then advances. Where a write or a read fails, all else
 -- stays.
-pub record Turns (traced : Bool) (ws : List ℕ) (p : Place) (i o : List ℕ) (r : Turned)
+pub record Turns (traced : Bool) (office : ℕ) (ws : List ℕ) (p : Place) (i o : List ℕ) (r : Turned)
     (ws′ i′ o′ : List ℕ) : Type 0 where
   pub within : Within (r .place)
   pub sound : SoundTable ws′
+  pub own : OfOffice office ws′
   pub number : r .place .number ≤ p .number + 1
   pub sent : r .sent ≤ length (unwrittenOf p o)
   -- nothing is written while a line has room, unless the program waits
   pub unasked : roomFor (p .filled) (waitsOf (p .ended) (windowOf p i)) ≡ true → r .sent ≡ 0
   pub keeps : r .failed ≡ false → r .unread ≡ false
-      → Keeps traced ws (p .ended) (p .number) (windowOf p i) (drop (r .sent) (unwrittenOf p o)) (r .more) ws′
+      → Keeps traced office ws (p .ended) (p .number) (windowOf p i) (drop (r .sent) (unwrittenOf p o)) (r .more) ws′
       (r .place .ended) (r .place .number) (windowOf (r .place) i′) (unwrittenOf (r .place) o′)
   -- nothing is left unwritten while the program waits
   pub shown : r .failed ≡ false → waitsOf (p .ended) (windowOf p i) ≡ true → drop (r .sent) (unwrittenOf p o) ≡ []

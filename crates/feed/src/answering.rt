@@ -41,6 +41,7 @@ fn view_for(table: &[u32], record: &[u8], refusal: u8) -> u32
 
 // The record in front through the step, and its line.
 pub fn answer(
+    office: u8,
     table: &mut [u32],
     p: Place,
     input: &[u8],
@@ -48,13 +49,13 @@ pub fn answer(
     output: &mut [u8],
     traced: bool,
 ) -> Advanced
-    requires { ⌜ TurnReady (now table) p (now input) (now out) (now output)
+    requires { ⌜ TurnReady office (now table) p (now input) (now out) (now output)
         × (p .filled + mostLine ≤ bufferLength) ⌝ }
-    ensures { λ r. ⌜ Answered traced (now (table .entry)) p (frontOf (windowOf p (now (input .entry))))
+    ensures { λ r. ⌜ Answered traced office (now (table .entry)) p (frontOf (windowOf p (now (input .entry))))
         (now (output .entry)) r (now (table .exit)) (now (output .exit)) ⌝ }
 {
     let record = front(input, p.at, p.end);
-    let a = step_held(table, record, out);
+    let a = step_held(office, table, record, out);
     let view = view_for(table, record, a.refusal);
     let place = told(p, record.len(), a, view, out, output, traced);
     Advanced {

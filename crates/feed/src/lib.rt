@@ -42,15 +42,16 @@ fn turns_left(more: bool, failed: bool, turns: u64) -> u64
 
 // Turn after turn, until the input has ended, a record is refused by 4 or 5, or a read or a write fails.
 fn turns(
+    office: u8,
     table: &mut [u32],
     input: &mut [u8],
     out: &mut [u8],
     output: &mut [u8],
     traced: bool,
 ) -> Ended
-    requires { ⌜ Lent (now table) (now input) (now out) (now output) ⌝ }
-    ensures { λ r. ⌜ Ran traced (now (table .entry)) (now (table .exit)) (r .place) (now (input .exit))
-        (now (output .exit)) (r .more) (r .failed) (r .unread) 0 ⌝ }
+    requires { ⌜ Lent office (now table) (now input) (now out) (now output) ⌝ }
+    ensures { λ r. ⌜ Ran traced office (now (table .entry)) (now (table .exit)) (r .place)
+        (now (input .exit)) (now (output .exit)) (r .more) (r .failed) (r .unread) 0 ⌝ }
 {
     let mut place = Place {
         ended: false,
@@ -64,7 +65,7 @@ fn turns(
     let mut unread = false;
     let mut left = u64::MAX;
     while left > 0 {
-        let t = turn(table, place, input, out, output, traced);
+        let t = turn(office, table, place, input, out, output, traced);
         let next = t.place;
         place = next;
         more = t.more;
@@ -111,10 +112,17 @@ fn finish(output: &[u8], filled: usize, failed: bool, unread: bool)
     }
 }
 
-fn serve(table: &mut [u32], input: &mut [u8], out: &mut [u8], output: &mut [u8], traced: bool)
-    requires { ⌜ Lent (now table) (now input) (now out) (now output) ⌝ }
+fn serve(
+    office: u8,
+    table: &mut [u32],
+    input: &mut [u8],
+    out: &mut [u8],
+    output: &mut [u8],
+    traced: bool,
+)
+    requires { ⌜ Lent office (now table) (now input) (now out) (now output) ⌝ }
 {
-    let e = turns(table, input, out, output, traced);
+    let e = turns(office, table, input, out, output, traced);
     let place = e.place;
     finish(output, place.filled, e.failed, e.unread);
 }
@@ -162,7 +170,14 @@ fn open(office: u8, traced: bool) {
     let mut input = io::large_buffer();
     let mut output = io::large_buffer();
     let mut out = [0u8; step::ROOM];
-    serve(&mut table, &mut input, &mut out, &mut output, traced);
+    serve(
+        office,
+        &mut table,
+        &mut input,
+        &mut out,
+        &mut output,
+        traced,
+    );
 }
 
 // The program; `traced` has the bytes written behind each line. The first argument is its own name.

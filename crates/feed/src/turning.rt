@@ -25,6 +25,7 @@ pub struct Turned {
 
 // More of the input where that can change what stands in front; else the record in front; nothing at the input's end.
 fn advance(
+    office: u8,
     table: &mut [u32],
     p: Place,
     input: &mut [u8],
@@ -33,9 +34,9 @@ fn advance(
     waiting: bool,
     traced: bool,
 ) -> Advanced
-    requires { ⌜ TurnReady (now table) p (now input) (now out) (now output)
+    requires { ⌜ TurnReady office (now table) p (now input) (now out) (now output)
         × (waiting ≡ waitsOf (p .ended) (windowOf p (now input))) × (roomFor (p .filled) waiting ≡ true) ⌝ }
-    ensures { λ r. ⌜ Advances traced (now (table .entry)) p (now (input .entry)) (now (output .entry)) r
+    ensures { λ r. ⌜ Advances traced office (now (table .entry)) p (now (input .entry)) (now (output .entry)) r
         (now (table .exit)) (now (input .exit)) (now (output .exit)) ⌝ }
 {
     if waiting {
@@ -54,10 +55,11 @@ fn advance(
             place: p,
         };
     }
-    answer(table, p, input, out, output, traced)
+    answer(office, table, p, input, out, output, traced)
 }
 
 pub fn turn(
+    office: u8,
     table: &mut [u32],
     p: Place,
     input: &mut [u8],
@@ -65,15 +67,15 @@ pub fn turn(
     output: &mut [u8],
     traced: bool,
 ) -> Turned
-    requires { ⌜ TurnReady (now table) p (now input) (now out) (now output) ⌝ }
-    ensures { λ r. ⌜ Turns traced (now (table .entry)) p (now (input .entry)) (now (output .entry)) r
+    requires { ⌜ TurnReady office (now table) p (now input) (now out) (now output) ⌝ }
+    ensures { λ r. ⌜ Turns traced office (now (table .entry)) p (now (input .entry)) (now (output .entry)) r
         (now (table .exit)) (now (input .exit)) (now (output .exit)) ⌝ }
 {
     let waiting = waits(p, input);
     let q = emptied(p, output, waiting);
     let sent = p.filled - q.filled;
     if has_room(q.filled, waiting) {
-        let advanced = advance(table, q, input, out, output, waiting, traced);
+        let advanced = advance(office, table, q, input, out, output, waiting, traced);
         let next = advanced.place;
         Turned {
             more: advanced.more,

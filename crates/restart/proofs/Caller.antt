@@ -39,9 +39,10 @@ sixteen-each = record {
   views = λ s a. length-tab 16 _;
 }
 
-take-sixteen : (s : State) (e : Event) (output : ℕ) → Every HasSixteen (takeOf s e output .written)
-take-sixteen s e output =
-    take-by s e output (λ ws t. Every HasSixteen ws) none (λ a. every-written sixteen-each s e)
+take-sixteen : (office : ℕ) (s : State) (e : Event) (output : ℕ)
+    → Every HasSixteen (takeOf office s e output .written)
+take-sixteen office s e output =
+    take-by office s e output (λ ws t. Every HasSixteen ws) none (λ a. every-written sixteen-each s e)
 
 mark-bytes : (n : ℕ) → length (highBytes n) ≡ highLength
 unfolding highBytes encodeHigh
@@ -186,16 +187,17 @@ module _ (room : ℕ) where
     pub none-leaves : Leaves []
     none-leaves = moves-as [] none none
 
-    pub take-leaves : (s : State) (e : Event) (output : ℕ) → Leaves (takeOf s e output .written)
-    take-leaves s e output =
-        moves-as (takeOf s e output .written) (take-sixteen s e output) (take-largest s e output)
+    pub take-leaves : (office : ℕ) (s : State) (e : Event) (output : ℕ) → Leaves (takeOf office s e output .written)
+    take-leaves office s e output =
+        moves-as (takeOf office s e output .written) (take-sixteen office s e output) (take-largest office s e output)
 
-    pub step-leaves : (s : State) (b : List ℕ) (output : ℕ) → Leaves (stepOf s b output .written)
-    step-leaves s b output =
-        step-by s b output (λ ws t. Leaves ws) none-leaves (λ e. take-leaves s e output)
+    pub step-leaves : (office : ℕ) (s : State) (b : List ℕ) (output : ℕ) → Leaves (stepOf office s b output .written)
+    step-leaves office s b output =
+        step-by office s b output (λ ws t. Leaves ws) none-leaves (λ e. take-leaves office s e output)
 
-    pub table-leaves : (t : Table) (b : List ℕ) (output : ℕ) → Leaves (stepTable t b output .written)
-    table-leaves t b output =
-        table-by t b output (λ q. Leaves (q .written)) (λ n d. none-leaves)
-        (λ a. subst (λ (q : Result). Leaves (q .written)) (step-accepts (t (roomOf b)) b output (a .accepts))
-        (step-leaves (t (roomOf b)) b output))
+    pub table-leaves : (office : ℕ) (t : Table) (b : List ℕ) (output : ℕ)
+        → Leaves (stepTable office t b output .written)
+    table-leaves office t b output =
+        table-by office t b output (λ q. Leaves (q .written)) (λ n d. none-leaves)
+        (λ a. subst (λ (q : Result). Leaves (q .written)) (step-accepts office (t (roomOf b)) b output (a .accepts))
+        (step-leaves office (t (roomOf b)) b output))

@@ -62,12 +62,12 @@ plainly-at P f (x ∷ fs) (more h hs) = more (one x h) (plainly-at P (nextFiledI
 begun-low : (w : RoomWorld) (o : ℕ) (b : RoomUnderway) → Every (λ w. largestIn w ≤ limit) (begunWritesIn w o b)
 unfolding begunWritesIn
 begun-low w o none-begun = none
-begun-low w o (report-begun m r output) = unfold reportAnswerIn in table-largest (w .table o) _ output
+begun-low w o (report-begun m r output) = unfold reportAnswerIn in table-largest o (w .table o) _ output
 begun-low w o (delivery-begun i output) = go (w .link i o)
   where
     go : (l : List (Roomed Item)) → Every (λ w. largestIn w ≤ limit) (frontWritesIn w o output l)
     go [] = none
-    go (x ∷ l) = unfold proposalAnswerIn in table-largest (w .table o) _ output
+    go (x ∷ l) = unfold proposalAnswerIn in table-largest o (w .table o) _ output
 
 module _ (F : ℕ → Bool) where
   abbrev AllCovered : RoomFiled → Type 0

@@ -14,9 +14,10 @@ use Rattle.laws.proofs.Fin.{if-cases, true-false}
 use Rattle.records.specs.Numbers.{roomCount}
 use Rattle.rules.specs.State.{State}
 use Rattle.rules.specs.Rules.{Written, restarted}
-use Rattle.rules.specs.Refusals.{wellFormed, Result, takeOf}
+use Rattle.rules.specs.Refusals.{wellFormed, Result, actWith, takeOf}
 use Rattle.rules.specs.Tables.{Table, restartedTable, wellTable, RoomEvent, shownIn, takeTable}
-use Rattle.rule_laws.proofs.Tables.{room-well, well-rooms, table-2, table-takes, others-stay, table-well}
+use Rattle.rule_laws.proofs.Tables.{room-well, well-rooms, act-2, take-table-by, shown-takes, table-takes, others-stay}
+use Rattle.rule_laws.proofs.Tables.{table-well}
 use Rattle.runs.specs.Office.{Input, answerTo, answerOf, stateAfter, logOf, sentIn}
 use Rattle.rooms.specs.Roomed.{roomed, ofRoom}
 use Rattle.rooms.specs.Handing.{Handed, answerTable, nextTable, tableAfter, tableSent, answersIn, inputOf}
@@ -24,27 +25,28 @@ use Rattle.rooms.specs.Handing.{inputsIn}
 use Rattle.rooms.proofs.Roomed.{room-append, room-same, room-other}
 
 -- Over one event: two tables that both pass check 2 and agree on one room answer its records alike.
-pub isolated : (t u : Table) (e : RoomEvent) (output : ℕ) → e .room < roomCount → wellTable t ≡ true
+pub isolated : (office : ℕ) (t u : Table) (e : RoomEvent) (output : ℕ) → e .room < roomCount → wellTable t ≡ true
     → wellTable u ≡ true → t (e .room) ≡ u (e .room)
-    → shownIn (e .room) (takeTable t e output) ≡ shownIn (e .room) (takeTable u e output)
-isolated t u e output l v w same =
-    table-takes t e output v l ∙ ap (λ (s : State). takeOf s (e .what) output) same ∙ sym (table-takes u e output w l)
+    → shownIn (e .room) (takeTable office t e output) ≡ shownIn (e .room) (takeTable office u e output)
+isolated office t u e output l v w same =
+    table-takes t e output office v l ∙ ap (λ (s : State). takeOf office s (e .what) output) same
+    ∙ sym (table-takes u e output office w l)
 
 -- what is handed to a table that passes check 2, seen in its room and in another
 module _ (k : ℕ) (l : k < roomCount) (t : Table) (w : wellTable t ≡ true) (h : Handed) where
   pub handed-here : h .event .room ≡ k → shownIn k (answerTable t h) ≡ answerTo (t k) (inputOf h)
   unfolding answerTable answerTo
   handed-here q =
-      subst (λ (j : ℕ). shownIn j (answerTable t h) ≡ takeOf (t j) (h .event .what) (h .output)) q
-      (table-takes t (h .event) (h .output) w (rw q l))
+      subst (λ (j : ℕ). shownIn j (answerTable t h) ≡ takeOf (h .office) (t j) (h .event .what) (h .output)) q
+      (table-takes t (h .event) (h .output) (h .office) w (rw q l))
 
   pub handed-there : (h .event .room ≡ k → ⊥) → nextTable t h k ≡ t k
   unfolding answerTable
-  handed-there n = others-stay t (h .event) (h .output) k (λ e. n (sym e))
+  handed-there n = others-stay t (h .event) (h .output) (h .office) k (λ e. n (sym e))
 
   pub next-well : wellTable (nextTable t h) ≡ true
   unfolding answerTable
-  next-well = table-well t (h .event) (h .output) w
+  next-well = table-well t (h .event) (h .output) (h .office) w
 
 -- what holds of all that is handed to a table holds of what room k is handed
 pub inputs-every : (k : ℕ) (I : Input → Type 0) (hs : List Handed) → Every (λ h. I (inputOf h)) hs
@@ -123,7 +125,7 @@ isolated-runs k l t u v w same hs is e =
     )
 
 -- A table is uniform where check 2 passes in every room or in none. So is every restarted one, whatever its number,
--- and where it passes in none, all of its rooms answer 2.
+-- and where it passes in none, every room answers 2 to what passes its reading.
 abbrev pub Uniform : Table → Type 0
 Uniform t = (wellTable t ≡ true) ⊎ ((k : ℕ) → k < roomCount → wellFormed (t k) ≡ false)
 
@@ -141,13 +143,15 @@ ill-table t h = go (wellTable t) refl
     go true e = absurd (true-false _ (room-well t e 0 (omega arith)) (h 0 (omega arith)))
     go false e = e
 
-module _ (t : Table) (e : RoomEvent) (output : ℕ) where
+module _ (office : ℕ) (t : Table) (e : RoomEvent) (output : ℕ) where
   pub uniform-takes : Uniform t → e .room < roomCount
-      → shownIn (e .room) (takeTable t e output) ≡ takeOf (t (e .room)) (e .what) output
-  uniform-takes (inl w) l = table-takes t e output w l
+      → shownIn (e .room) (takeTable office t e output) ≡ takeOf office (t (e .room)) (e .what) output
+  uniform-takes (inl w) l = table-takes t e output office w l
   uniform-takes (inr h) l =
-      ap (shownIn (e .room)) (table-2 t e output (ill-table t h)) ∙ (unfold takeOf in rw (h (e .room) l))
+      shown-takes t e output office l (ap (shownIn (e .room)) (act-2 t e output (ill-table t h))
+      ∙ (unfold actWith in rw (h (e .room) l)))
 
-  pub uniform-next : Uniform t → Uniform (takeTable t e output .table)
-  uniform-next (inl w) = inl (table-well t e output w)
-  uniform-next (inr h) = inr (λ k l. rw (table-2 t e output (ill-table t h)) (h k l))
+  pub uniform-next : Uniform t → Uniform (takeTable office t e output .table)
+  uniform-next (inl w) = inl (table-well t e output office w)
+  uniform-next (inr h) = inr (λ k l. take-table-by t e output office (λ q. wellFormed (q .table k) ≡ false)
+      (λ d. h k l) (λ z. rw (act-2 t e output (ill-table t h)) (h k l)))

@@ -179,10 +179,10 @@ module _ (k : ℕ) (w : RoomWorld) (i j : ℕ) (x : Roomed Item) (row : List (Ro
 -- an office whose table is uniform answers in room k as that room's state does
 module _ (k : ℕ) (l : k < roomCount) (w : RoomWorld) (o : ℕ) (even : Uniform (w .table o)) where
   takes-here : (e : RoomEvent) (output : ℕ) → e .room ≡ k
-      → shownIn k (takeTable (w .table o) e output) ≡ takeOf (w .table o k) (e .what) output
+      → shownIn k (takeTable o (w .table o) e output) ≡ takeOf o (w .table o k) (e .what) output
   takes-here e output q =
-      subst (λ (j : ℕ). shownIn j (takeTable (w .table o) e output) ≡ takeOf (w .table o j) (e .what) output) q
-      (uniform-takes (w .table o) e output even (rw q l))
+      subst (λ (j : ℕ). shownIn j (takeTable o (w .table o) e output) ≡ takeOf o (w .table o j) (e .what) output) q
+      (uniform-takes o (w .table o) e output even (rw q l))
 
   report-here : (m : ℕ) → m ≡ k → (r : Report) (output : ℕ)
       → shownIn k (reportAnswerIn w o m r output) ≡ reportAnswer (seenIn k w) o r output
@@ -275,7 +275,7 @@ room-next k l w h (roomReport o m r output) v = go (ℕ-discrete m k)
     go (yes q) = rw (eq-eqb m k q) (answered-here k w o _ _ m q (report-here k l w o (h o v) m q r output))
     go (no n) =
         let s : reportAnswerIn w o m r output .table k ≡ w .table o k
-        = unfold reportAnswerIn in others-stay (w .table o) _ output k (λ e. n (sym e)) in
+        = unfold reportAnswerIn in others-stay (w .table o) _ output o k (λ e. n (sym e)) in
         rw (ne-eqb m k n) (answered-elsewhere k m n w o _ s ∙ sym (pauses (seenIn k w)))
 room-next k l w h (roomDelivery i j output) v = go (w .link i j) refl
   where
@@ -299,7 +299,7 @@ room-next k l w h (roomDelivery i j output) v = go (w .link i j) refl
             ∙ ap (λ (u : World). answered u j r) (link-seen k w i j row))
         by-room (no n) =
             let s : q .table k ≡ withLinkIn w i j row .table j k
-            = unfold proposalAnswerIn withLinkIn in others-stay (w .table j) _ output k (λ d. n (sym d)) in
+            = unfold proposalAnswerIn withLinkIn in others-stay (w .table j) _ output j k (λ d. n (sym d)) in
             rw (ne-eqb (x .room) k n)
             (answered-elsewhere k (x .room) n (withLinkIn w i j row) j q s ∙ ap idle (front-other k w i j x row e n)
             ∙ sym (pauses (seenIn k w)))
@@ -315,14 +315,14 @@ pub uniform-then : (w : RoomWorld) (e : RoomsEvent) → actsAt e < 16 → AllUni
 unfolding nextIn answeredIn withLinkIn idleIn
 uniform-then w (roomReport o m r output) v h i l = unfold reportAnswerIn in
     upd-cases (λ (i : ℕ) (t : Table). i < 16 → Uniform t) (w .table) o _ i
-    (λ b. uniform-next (w .table o) _ output (h o v)) (λ d b. h i b) l
+    (λ b. uniform-next o (w .table o) _ output (h o v)) (λ d b. h i b) l
 uniform-then w (roomDelivery i j output) v h a l = go (w .link i j)
   where
     go : (row : List (Roomed Item)) → Uniform (deliveredIn w i j output row .table a)
     go [] = h a l
     go (x ∷ row) = unfold proposalAnswerIn in
         upd-cases (λ (i : ℕ) (t : Table). i < 16 → Uniform t) (w .table) j _ a
-        (λ b. uniform-next (w .table j) _ output (h j v)) (λ d b. h a b) l
+        (λ b. uniform-next j (w .table j) _ output (h j v)) (λ d b. h a b) l
 uniform-then w (roomLoss i j place) v h a l = h a l
 uniform-then w (roomCut o b left m) v h a l = go b
   where

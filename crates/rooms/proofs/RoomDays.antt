@@ -13,7 +13,7 @@ use Rattle.records.specs.declared.Report.{Report}
 use Rattle.rules.specs.MarkFile.{lastIn, lastHigh, allHigh, isHigh, mayFollow, goodFile, highBytes}
 use Rattle.rules.specs.Leaving.{putsAll, actionsFrom, fileAfter, leftIn}
 use Rattle.rules.specs.Refusals.{fullRoom, aReport, restartChecks, restartOf}
-use Rattle.rules.specs.Tables.{Table, freshTable, restartedTable, wellTable, restartTable, barred, takeTable}
+use Rattle.rules.specs.Tables.{Table, freshTable, restartedTable, wellTable, restartTable, barred, actTable, takeTable}
 use Rattle.rules.specs.Days.{given}
 use Rattle.runs.specs.Office.{ofProposal, ofNotice, picked, entire, broken}
 use Rattle.runs.specs.World.{WorldEvent, report, delivery, loss, cut, nothing-begun, begun-report, begun-delivery}
@@ -34,7 +34,7 @@ joins x = record { joining = record { bits = x }; leaving = record { bits = 0 } 
 
 -- what a room sees of a list from fresh tables; who unfolds this unfolds the world of rooms
 unfoldable pub seenBy : ℕ → List RoomsEvent → List WorldEvent
-unfolding given takeTable barred wellTable ofRoom answeredIn withLinkIn idleIn reportAnswerIn proposalAnswerIn
+unfolding given takeTable actTable barred wellTable ofRoom answeredIn withLinkIn idleIn reportAnswerIn proposalAnswerIn
     begunRoom begunWritesIn takenUpIn cutAnswerIn nextIn seenIn begunSeen eventIn eventsIn
 seenBy k es = eventsIn k (roomsFirst freshTable (λ i j. [])) es
 
@@ -112,7 +112,7 @@ marks-of-all-rooms = refl
 -- One server: it is told in room 0, and again in room 1, where it is cut off when the notice has left; then it is told
 -- in both rooms.
 abbrev told : ℕ → Handed
-told room = record { event = record { room = room; what = aReport (joins 0b10001) }; output = fullRoom }
+told room = record { office = 0; event = record { room = room; what = aReport (joins 0b10001) }; output = fullRoom }
 
 abbrev turns : List ServerTurn
 turns = servesAll (told 0) ∷ stopsAfter (told 1) 1 ∷ servesAll (told 1) ∷ servesAll (told 0) ∷ []
@@ -125,7 +125,7 @@ pub left-in-rooms :
     leftOf 0 ∷ leftOf 1 ∷ leftOf 2 ∷ (serverAfter 0 (freshServer 0) turns .file ∷ []) ∷ []
     ≡ ((1 ∷ 1_000_002 ∷ []) ∷ (1 ∷ 1_000_002 ∷ []) ∷ []) ∷ ((1 ∷ 1_000_002 ∷ []) ∷ (1_000_002 ∷ []) ∷ [])
     ∷ ([] ∷ [] ∷ []) ∷ ((highBytes 1_000_001 ++ highBytes 2_000_002) ∷ []) ∷ []
-unfolding given takeTable barred wellTable restartTable restartOf restartChecks answerTable doneBy nextServer
+unfolding given takeTable actTable barred wellTable restartTable restartOf restartChecks answerTable doneBy nextServer
     serverLeft ofRoom picked runs actionsFrom putsAll fileAfter leftIn goodFile allHigh isHigh mayFollow highBytes
     encodeHigh decodeHigh pieces lastIn lastHigh
 left-in-rooms = refl then refl then refl then refl then refl
@@ -135,7 +135,7 @@ pub turns-in-rooms :
     turnsIn 0 0 (freshServer 0) turns ∷ turnsIn 0 1 (freshServer 0) turns ∷ []
     ≡ (entire (inputOf (told 0)) ∷ broken (inputOf (told 1)) 0 1_000_001 ∷ entire (inputOf (told 0)) ∷ [])
     ∷ (broken (inputOf (told 1)) 1 1_000_001 ∷ entire (inputOf (told 1)) ∷ []) ∷ []
-unfolding given takeTable barred wellTable restartTable restartOf restartChecks answerTable doneBy nextServer turnIn
-    turnsIn actionsFrom putsAll fileAfter leftIn goodFile allHigh isHigh mayFollow highBytes encodeHigh decodeHigh
-    pieces lastIn lastHigh
+unfolding given takeTable actTable barred wellTable restartTable restartOf restartChecks answerTable doneBy nextServer
+    turnIn turnsIn actionsFrom putsAll fileAfter leftIn goodFile allHigh isHigh mayFollow highBytes encodeHigh
+    decodeHigh pieces lastIn lastHigh
 turns-in-rooms = refl then refl then refl

@@ -40,15 +40,15 @@ use Rattle.rooms.proofs.Roomed.{every-roomed, room-append, room-same, r
 use Rattle.rooms.proofs.Isolation.{handed-here, handed-there, next-well}
 
 -- no number of a record that a table writes is above L
-pub table-largest : (t : Table) (e : RoomEvent) (output : ℕ)
-    → Every (λ w. largestIn w ≤ limit) (takeTable t e output .written)
-table-largest t e output = go (table-written t e output)
+pub table-largest : (office : ℕ) (t : Table) (e : RoomEvent) (output : ℕ)
+    → Every (λ w. largestIn w ≤ limit) (takeTable office t e output .written)
+table-largest office t e output = go (table-written t e output office)
   where
-    go : (takeTable t e output .written ≡ [])
-        ⊎ (takeTable t e output .written ≡ takeOf (t (e .room)) (e .what) output .written)
-        → Every (λ w. largestIn w ≤ limit) (takeTable t e output .written)
+    go : (takeTable office t e output .written ≡ [])
+        ⊎ (takeTable office t e output .written ≡ takeOf office (t (e .room)) (e .what) output .written)
+        → Every (λ w. largestIn w ≤ limit) (takeTable office t e output .written)
     go (inl z) = rw z none
-    go (inr z) = rw z (take-largest (t (e .room)) (e .what) output)
+    go (inr z) = rw z (take-largest office (t (e .room)) (e .what) output)
 
 -- a good file is never refused: every room begins again at its last mark
 pub good-table : (own : ℕ) (f : List ℕ) → own < 16 → goodFile f ≡ true
@@ -99,7 +99,7 @@ module _ (own : ℕ) (lt : own < 16) (k : ℕ) (lk : k < roomCount) where
 
       low : Every (λ w. largestIn w ≤ limit) writes
       unfolding answerTable
-      low = table-largest (s .table) (h .event) (h .output)
+      low = table-largest (h .office) (s .table) (h .event) (h .output)
 
       part-left : (n : ℕ) → let done = take n (actionsOf (s .file) writes) in
           (leftIn done ≡ take (length (leftIn done)) writes)

@@ -11,13 +11,14 @@ use Rattle.rules.specs.Tables.{Table, RoomEvent, TableResult, shownIn, takeTabl
 use Rattle.runs.specs.Office.{Input}
 use Rattle.rooms.specs.Roomed.{Roomed, roomed}
 
--- what is handed to a table: an event of a room, and an output of length output
+-- what is handed to a table: the office for which it is read, an event of a room, and an output of length output
 pub record Handed : Type 0 where
+  pub office : ℕ
   pub event : RoomEvent
   pub output : ℕ
 
 unfoldable pub answerTable : Table → Handed → TableResult
-answerTable t h = takeTable t (h .event) (h .output)
+answerTable t h = takeTable (h .office) t (h .event) (h .output)
 
 abbrev pub nextTable : Table → Handed → Table
 nextTable t h = answerTable t h .table
@@ -39,7 +40,7 @@ answersIn k t (h ∷ hs) =
 
 -- what room k is handed, as a state alone would be
 abbrev pub inputOf : Handed → Input
-inputOf h = record { event = h .event .what; room = h .output }
+inputOf h = record { office = h .office; event = h .event .what; room = h .output }
 
 unfoldable pub inputsIn : ℕ → List Handed → List Input
 inputsIn k [] = []

@@ -73,13 +73,13 @@ withoutIn n [] = []
 withoutIn zero (x ∷ l) = l
 withoutIn (suc n) (x ∷ l) = x ∷ withoutIn n l
 
--- what office o answers to a report of a room, and to a proposal of its room
+-- what office o answers to a report of a room, and to a proposal of its room: it reads for itself
 unfoldable pub reportAnswerIn : RoomWorld → ℕ → ℕ → Report → ℕ → TableResult
-reportAnswerIn w o room r output = takeTable (w .table o) (record { room = room; what = aReport r }) output
+reportAnswerIn w o room r output = takeTable o (w .table o) (record { room = room; what = aReport r }) output
 
 unfoldable pub proposalAnswerIn : RoomWorld → ℕ → Roomed Item → ℕ → TableResult
 proposalAnswerIn w o x output =
-    takeTable (w .table o) (record { room = x .room; what = aProposal (x .what .proposal) }) output
+    takeTable o (w .table o) (record { room = x .room; what = aProposal (x .what .proposal) }) output
 
 abbrev pub deliveredIn : RoomWorld → ℕ → ℕ → ℕ → List (Roomed Item) → RoomWorld
 deliveredIn w i j output [] = idleIn w

@@ -157,11 +157,11 @@ pub event-counted : (s : State) (e : Event) → Every (Counted (arrived s e) (ru
 event-counted = walk-event counting
 
 -- of a step, from the state in which the record's first change leaves the office
-pub step-counted : (s : State) (b : List ℕ) (output : ℕ)
-    → Every (Counted (arrived s (eventOf b)) (stepOf s b output .state)) (stepOf s b output .written)
-step-counted s b output = go (step-cases s b output)
+pub step-counted : (office : ℕ) (s : State) (b : List ℕ) (output : ℕ)
+    → Every (Counted (arrived s (eventOf b)) (stepOf office s b output .state)) (stepOf office s b output .written)
+step-counted office s b output = go (step-cases office s b output)
   where
-    go : Refused s (stepOf s b output) ⊎ Accepts s b output
-        → Every (Counted (arrived s (eventOf b)) (stepOf s b output .state)) (stepOf s b output .written)
+    go : Refused s (stepOf office s b output) ⊎ Accepts office s b output
+        → Every (Counted (arrived s (eventOf b)) (stepOf office s b output .state)) (stepOf office s b output .written)
     go (inl r) = rw (r .is) none
-    go (inr a) = rw (step-accepts s b output a) (event-counted s (eventOf b))
+    go (inr a) = rw (step-accepts office s b output a) (event-counted s (eventOf b))

@@ -6,16 +6,15 @@ use mathlib.Core.Logic.{_⊎_, inl, inr}
 use Prim.Native.Nat.{ℕ, _≤_, _<_}
 use native.Mathlib.Omega.{arith}
 use native.Mathlib.Decide.{decLt}
-use borrow.Author.Tests.{lt-ltb, le-ltb, le-leb, lt-leb, ne-eqb}
+use borrow.Author.Tests.{le-leb, lt-leb, ne-eqb}
 use Rattle.laws.specs.Upd.{ifb}
 use Rattle.records.specs.Layout.{reportMark, proposalMark, reportLength, proposalLength, checkOwn}
 use Rattle.records.specs.Layout.{decodeReport, decodeProposal}
 use Rattle.records.proofs.CheckLaws.{own-mark}
 use Rattle.rules.specs.State.{State}
 use Rattle.rules.specs.Rules.{fresh}
-use Rattle.rules.specs.Refusals.{wellFormed, fullRoom, madeOf, readCheck, unreadable, Event, aReport, aProposal, eventOf}
-use Rattle.rules.specs.Refusals.{refusalOf, ruleOf}
-use Rattle.rules.specs.Refusals.{refused, accepting, actOf, stepOf, allBytes, size}
+use Rattle.rules.specs.Refusals.{wellFormed, madeOf, Event, aReport, aProposal, eventOf, refusalOf, ruleOf, accepting}
+use Rattle.rules.specs.Refusals.{actOf, stepOf, allBytes, size}
 use Rattle.rule_laws.proofs.Steps.{Refused, Accepts, step-cases, fresh-well}
 use Rattle.rule_laws.proofs.Sizes.{step-size}
 
@@ -36,26 +35,6 @@ made-passes office = go (decLt 15 office)
     go : Dec (15 < office) → wellFormed (madeOf office .state) ≡ true
     go (yes l) = rw (made-1 office l) (fresh-well 0 (omega arith))
     go (no l) = rw (made-0 office (omega arith)) (fresh-well office (omega arith))
-
-module _ (s : State) (b : List ℕ) (output : ℕ) where
-  pub exit-2 : wellFormed s ≡ false → stepOf s b output ≡ refused 2 s
-  unfolding stepOf unreadable
-  exit-2 w = rw w
-
-  module _ (well : wellFormed s ≡ true) where
-    pub exit-3 : output < fullRoom → stepOf s b output ≡ refused 3 s
-    unfolding stepOf unreadable
-    exit-3 l = rw (well, lt-ltb output fullRoom l)
-
-    -- 4, 5 and 20, and what acting on the record answers where they pass
-    module _ (fits : fullRoom ≤ output) where
-      pub exit-unread : (readCheck b ≡ 0 → ⊥) → stepOf s b output .refusal ≡ readCheck b
-      unfolding stepOf unreadable
-      exit-unread h = rw (well, le-ltb output fullRoom fits, ne-eqb (readCheck b) 0 h, ne-eqb (readCheck b) 0 h)
-
-      pub exit-read : readCheck b ≡ 0 → stepOf s b output ≡ actOf s (eventOf b)
-      unfolding stepOf unreadable
-      exit-read c = rw (well, le-ltb output fullRoom fits, c)
 
 module _ (s : State) (e : Event) where
   -- 6 to 12 and 19
@@ -89,10 +68,12 @@ unfolding allBytes
 no-bytes room = refl
 
 -- what the step writes has room
-pub room-enough : (s : State) (b : List ℕ) (output : ℕ) → size (stepOf s b output .written) ≤ output
+pub room-enough : (office : ℕ) (s : State) (b : List ℕ) (output : ℕ)
+    → size (stepOf office s b output .written) ≤ output
 unfolding allBytes
-room-enough s b output = go (step-cases s b output)
+room-enough office s b output = go (step-cases office s b output)
   where
-    go : Refused s (stepOf s b output) ⊎ Accepts s b output → size (stepOf s b output .written) ≤ output
+    go : Refused s (stepOf office s b output) ⊎ Accepts office s b output
+        → size (stepOf office s b output .written) ≤ output
     go (inl r) = rw (r .is) (omega arith)
-    go (inr a) = let z = step-size s b output in omega (arith, a .fits)
+    go (inr a) = let z = step-size office s b output in omega (arith, a .fits)

@@ -370,8 +370,9 @@ own-largest (notice n) = omega arith
 own-largest (proposal p) = omega arith
 own-largest (view v) = omega arith
 
-pub take-largest : (s : State) (e : Event) (output : ℕ) → Every (λ w. largestIn w ≤ limit) (takeOf s e output .written)
-take-largest s e output = every-map within (take-within s e output)
+pub take-largest : (office : ℕ) (s : State) (e : Event) (output : ℕ)
+    → Every (λ w. largestIn w ≤ limit) (takeOf office s e output .written)
+take-largest office s e output = every-map within (take-within office s e output)
   where
     within : (w : Written) → RecordWithin w → largestIn w ≤ limit
     within (notice n) h = h

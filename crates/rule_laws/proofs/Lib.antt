@@ -3,6 +3,7 @@ pub mod Parts
 pub mod Tests
 pub mod Recipients
 pub mod Encoded
+pub mod Checking
 pub mod Steps
 pub mod Tables
 pub mod Repeats
@@ -17,7 +18,8 @@ pub mod Monotone
 pub mod Sizes
 pub mod Exits
 pub mod TableSteps
-pub mod Checking
+pub mod Turns
+pub mod Order
 pub mod Shapes
 pub mod MarkFile
 pub mod MarkCount

@@ -142,8 +142,11 @@ rises-none : (s : State) → Rises s [] s
 rises-none s = record { start = le-refl _; numbers = at-end (le-refl _); accepted = λ o l. le-refl _ }
 
 -- of an event taken or not, and of a step
-pub take-rises : (s : State) (e : Event) (output : ℕ) → Rises s (takeOf s e output .written) (takeOf s e output .state)
-take-rises s e output = take-by s e output (Rises s) (rises-none s) (λ a. event-rises s e (a .acts .passes))
+pub take-rises : (office : ℕ) (s : State) (e : Event) (output : ℕ)
+    → Rises s (takeOf office s e output .written) (takeOf office s e output .state)
+take-rises office s e output =
+    take-by office s e output (Rises s) (rises-none s) (λ a. event-rises s e (a .acts .passes))
 
-pub step-rises : (s : State) (b : List ℕ) (output : ℕ) → Rises s (stepOf s b output .written) (stepOf s b output .state)
-step-rises s b output = step-by s b output (Rises s) (rises-none s) (λ e. take-rises s e output)
+pub step-rises : (office : ℕ) (s : State) (b : List ℕ) (output : ℕ)
+    → Rises s (stepOf office s b output .written) (stepOf office s b output .state)
+step-rises office s b output = step-by office s b output (Rises s) (rises-none s) (λ e. take-rises office s e output)

@@ -51,15 +51,17 @@ module _ (s : State) (r : Report) where
     pub repeat-acts : actOf s (aReport r) ≡ accepted (nothingWritten s)
     repeat-acts = act-accepts s (aReport r) repeat-accepted ∙ ap accepted (repeat-rule e)
 
-    pub repeat-step : (b : List ℕ) (output : ℕ) → fullRoom ≤ output → readCheck b ≡ 0 → eventOf b ≡ aReport r
-        → stepOf s b output ≡ accepted (nothingWritten s)
-    repeat-step b output fits read is =
+    pub repeat-step : (office : ℕ) (b : List ℕ) (output : ℕ) → office < 16 → readCheck b ≡ 0 → fullRoom ≤ output
+        → eventOf b ≡ aReport r → stepOf office s b output ≡ accepted (nothingWritten s)
+    repeat-step office b output known read fits is =
         let f = read-facts b .0 read in
-        step-accepts s b output (record {
-          well = well;
-          fits = fits;
+        step-accepts office s b output (record {
+          known = known;
           readable = f .0;
           in-room = f .1;
+          form = rw is refl;
+          well = well;
+          fits = fits;
           acts = rw is repeat-accepted;
         })
         ∙ rw is (ap accepted (repeat-rule e))

@@ -350,9 +350,11 @@ unfolding greatest
 event-size s (aReport r) = at-most reportSizes _ (report-sizes s r)
 event-size s (aProposal p) = let a = at-most proposalSizes _ (proposal-sizes s p) in omega arith
 
-pub step-size : (s : State) (b : List ℕ) (output : ℕ) → size (stepOf s b output .written) ≤ fullRoom
-step-size s b output = go (step-cases s b output)
+pub step-size : (office : ℕ) (s : State) (b : List ℕ) (output : ℕ)
+    → size (stepOf office s b output .written) ≤ fullRoom
+step-size office s b output = go (step-cases office s b output)
   where
-    go : Refused s (stepOf s b output) ⊎ Accepts s b output → size (stepOf s b output .written) ≤ fullRoom
+    go : Refused s (stepOf office s b output) ⊎ Accepts office s b output
+        → size (stepOf office s b output .written) ≤ fullRoom
     go (inl r) = rw (r .is, none-size) (omega arith)
-    go (inr a) = rw (step-accepts s b output a) (event-size s (eventOf b))
+    go (inr a) = rw (step-accepts office s b output a) (event-size s (eventOf b))

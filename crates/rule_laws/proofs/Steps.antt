@@ -1,6 +1,6 @@
 -- The checks as plain facts, and the step by cases: refused, or accepted with what is then known.
-use mathlib.Core.Path.{_≡_, refl, ap}
-use mathlib.Core.Bool.{Bool, true, false, not}
+use mathlib.Core.Path.{_≡_, refl, ap, _∙_}
+use mathlib.Core.Bool.{Bool, true, false}
 use mathlib.Core.Logic.{_⊎_, inl, inr, _↔_}
 use mathlib.Core.List.{List, []}
 use Prim.Native.Nat.{ℕ, suc, _≤_, _<_}
@@ -10,6 +10,7 @@ use lib.ListN.{getD}
 use lib.Dec.{eqb, ltb}
 use borrow.Author.Tests.{ltb-false, leb-false, eqb-true, not-false, le-ltb, lt-leb, ne-eqb}
 use Rattle.laws.specs.Checks.{firstOf}
+use Rattle.laws.specs.Upd.{ifb}
 use Rattle.laws.proofs.Checks.{first-none, no-reason}
 use Rattle.laws.proofs.Fin.{as-facts, or-cases, true-false}
 use Rattle.laws.proofs.Tab.{getD-tab}
@@ -21,10 +22,11 @@ use Rattle.records.specs.declared.Proposal.{Proposal}
 use Rattle.rules.specs.State.{Slot, State, fast, slow, storedAt, acceptedAt, usedAt, usedFor}
 use Rattle.rules.specs.Rules.{Written, fresh, restarted}
 use Rattle.rule_laws.proofs.Parts.{restarted-reads, restarted-view, fresh-restarted}
-use Rattle.rules.specs.Refusals.{fullRoom, slotWithin, wellFormed, readCheck, unreadable, Event, eventOf, wrongSender, wrongKind}
+use Rattle.rules.specs.Refusals.{fullRoom, slotWithin, wellFormed, readCheck, Event, eventOf}
+use Rattle.rules.specs.Refusals.{wrongSender, wrongKind, formRefusal, readNumber}
 use Rattle.rules.specs.Refusals.{wrongNumber, withoutSeat, strayUsed, usesItself, notAbove, usedAhead}
 use Rattle.rules.specs.Refusals.{proposalChecks, refusalOf, ruleOf, Result, refused, accepted, accepting, actOf}
-use Rattle.rules.specs.Refusals.{takeOf, stepOf}
+use Rattle.rules.specs.Refusals.{actWith, takeOf, stepOf}
 
 -- what a stored proposal that passes check 2 satisfies
 pub record SlotWithin (v : Slot) : Type 0 where
@@ -179,14 +181,6 @@ pub record AcceptsEvent (s : State) (e : Event) : Type 0 where
   pub passes : refusalOf s e ≡ 0
   pub within : wellFormed (ruleOf s e .state) ≡ true
 
--- the step accepts: every check passes
-pub record Accepts (s : State) (b : List ℕ) (output : ℕ) : Type 0 where
-  pub well : wellFormed s ≡ true
-  pub fits : fullRoom ≤ output
-  pub readable : checkOf b ≡ 0
-  pub in-room : roomOf b < roomCount
-  pub acts : AcceptsEvent s (eventOf b)
-
 pub act-accepts : (s : State) (e : Event) → AcceptsEvent s e → actOf s e ≡ accepted (ruleOf s e)
 unfolding actOf accepting
 act-accepts s e h = rw (h .passes, h .within)
@@ -201,34 +195,87 @@ act-cases s e = go (ℕ-discrete (refusalOf s e) 0) (wellFormed (ruleOf s e .sta
     go (yes z) true w = inr (record { passes = z; within = w })
     go (yes z) false w = inl (rw (z, w) (record { reason = omega arith; is = refl }))
 
--- an event is taken: checks 2 and 3 pass too
-pub record Takes (s : State) (e : Event) (output : ℕ) : Type 0 where
+-- acting with an output accepts the event: checks 2 and 3 pass too
+pub record ActsWith (s : State) (e : Event) (output : ℕ) : Type 0 where
   pub well : wellFormed s ≡ true
   pub fits : fullRoom ≤ output
   pub acts : AcceptsEvent s e
 
-pub take-accepts : (s : State) (e : Event) (output : ℕ) → Takes s e output → takeOf s e output ≡ accepted (ruleOf s e)
-unfolding takeOf
-take-accepts s e output h = rw (h .well, le-ltb output fullRoom (h .fits)) (act-accepts s e (h .acts))
+act-with-accepts : (s : State) (e : Event) (output : ℕ) → ActsWith s e output
+    → actWith s e output ≡ accepted (ruleOf s e)
+unfolding actWith
+act-with-accepts s e output h = rw (h .well, le-ltb output fullRoom (h .fits)) (act-accepts s e (h .acts))
 
-pub take-cases : (s : State) (e : Event) (output : ℕ) → Refused s (takeOf s e output) ⊎ Takes s e output
-unfolding takeOf
-take-cases s e output = go (wellFormed s) refl (ltb output fullRoom) refl (act-cases s e)
+act-with-cases : (s : State) (e : Event) (output : ℕ) → Refused s (actWith s e output) ⊎ ActsWith s e output
+unfolding actWith
+act-with-cases s e output = go (wellFormed s) refl (ltb output fullRoom) refl (act-cases s e)
   where
     go : (t : Bool) → wellFormed s ≡ t → (u : Bool) → ltb output fullRoom ≡ u → Refused s (actOf s e) ⊎ AcceptsEvent s e
-        → Refused s (takeOf s e output) ⊎ Takes s e output
+        → Refused s (actWith s e output) ⊎ ActsWith s e output
     go false p u q a = inl (rw p (record { reason = omega arith; is = refl }))
     go true p true q a = inl (rw (p, q) (record { reason = omega arith; is = refl }))
     go true p false q (inl r) = inl (rw (p, q) r)
     go true p false q (inr a) = inr (record { well = p; fits = ltb-false output fullRoom q; acts = a })
 
+-- the reading passes: the office is one of the sixteen, and neither 4, 5 and 20 nor 6 to 10 and 19 apply
+pub reading-facts : (office found : ℕ) (e : Event)
+    → (readNumber office found e ≡ 0) ↔ ((office < 16) × (found ≡ 0) × (formRefusal office e ≡ 0))
+unfolding readNumber
+reading-facts office found e = (
+  λ z.
+      let c1 = first-none (ltb 15 office) 0 _ .0 z in
+      let c4 = no-reason found _ (c1 .1) in
+      let l = ltb-false 15 office (c1 .0) in
+      (omega arith, c4 .0, no-reason (formRefusal office e) 0 (c4 .1) .0),
+  λ h. let l : office ≤ 15 = let a = h .0 in omega arith in rw (le-ltb 15 office l, h .1, h .2),
+)
+
+-- an event is taken: it passes its reading, and acting on it accepts it
+pub record Takes (office : ℕ) (s : State) (e : Event) (output : ℕ) : Type 0 where
+  pub known : office < 16
+  pub form : formRefusal office e ≡ 0
+  pub well : wellFormed s ≡ true
+  pub fits : fullRoom ≤ output
+  pub acts : AcceptsEvent s e
+
+pub take-accepts : (office : ℕ) (s : State) (e : Event) (output : ℕ) → Takes office s e output
+    → takeOf office s e output ≡ accepted (ruleOf s e)
+unfolding takeOf
+take-accepts office s e output h =
+    rw (reading-facts office 0 e .1 (h .known, refl, h .form))
+    (act-with-accepts s e output (record { well = h .well; fits = h .fits; acts = h .acts }))
+
+-- behind a reading: refused by it, or as the acting goes
+module _ (n : ℕ) (s : State) (q : Result) where
+  abbrev behind : Result
+  behind = ifb (eqb n 0) q (refused n s)
+
+  behind-cases : (A B : Type 0) → Refused s q ⊎ A → (n ≡ 0 → A → B) → Refused s behind ⊎ B
+  behind-cases A B a f = go (ℕ-discrete n 0) a
+    where
+      go : Dec (n ≡ 0) → Refused s q ⊎ A → Refused s behind ⊎ B
+      go (no d) a = inl (rw (ne-eqb n 0 d) (record { reason = d; is = refl }))
+      go (yes z) (inl r) = inl (rw z r)
+      go (yes z) (inr x) = inr (f z x)
+
+pub take-cases : (office : ℕ) (s : State) (e : Event) (output : ℕ)
+    → Refused s (takeOf office s e output) ⊎ Takes office s e output
+unfolding takeOf
+take-cases office s e output =
+    behind-cases (readNumber office 0 e) s (actWith s e output) (ActsWith s e output) (Takes office s e output)
+    (act-with-cases s e output)
+    (λ z a. let f = reading-facts office 0 e .0 z in
+    record { known = f .0; form = f .2; well = a .well; fits = a .fits; acts = a .acts })
+
 -- a state that passes check 2 passes it after every event
-pub take-well : (s : State) (e : Event) (output : ℕ) → wellFormed s ≡ true → wellFormed (takeOf s e output .state) ≡ true
-take-well s e output w = go (take-cases s e output)
+pub take-well : (office : ℕ) (s : State) (e : Event) (output : ℕ) → wellFormed s ≡ true
+    → wellFormed (takeOf office s e output .state) ≡ true
+take-well office s e output w = go (take-cases office s e output)
   where
-    go : Refused s (takeOf s e output) ⊎ Takes s e output → wellFormed (takeOf s e output .state) ≡ true
+    go : Refused s (takeOf office s e output) ⊎ Takes office s e output
+        → wellFormed (takeOf office s e output .state) ≡ true
     go (inl r) = rw (r .is) w
-    go (inr a) = rw (take-accepts s e output a) (a .acts .within)
+    go (inr a) = rw (take-accepts office s e output a) (a .acts .within)
 
 -- checks 4, 5 and 20 pass
 pub read-facts : (b : List ℕ) → (readCheck b ≡ 0) ↔ ((checkOf b ≡ 0) × (roomOf b < roomCount))
@@ -241,100 +288,104 @@ read-facts b = (
   λ h. rw (h .0, lt-leb roomCount (roomOf b) (h .1)),
 )
 
--- checks 2 to 5 and 20 pass
-pub readable-facts : (well : Bool) (b : List ℕ) (output : ℕ)
-    → (unreadable well b output ≡ 0) ↔ ((well ≡ true) × (fullRoom ≤ output) × (readCheck b ≡ 0))
-unfolding unreadable
-readable-facts well b output = (
-  λ e.
-      let c2 = first-none (not well) 1 _ .0 e in
-      let c3 = first-none (ltb output fullRoom) 2 _ .0 (c2 .1) in
-      (not-false _ (c2 .0), ltb-false output fullRoom (c3 .0), no-reason (readCheck b) 0 (c3 .1) .0),
-  λ h. rw (h .0, le-ltb output fullRoom (h .1), h .2),
-)
+-- the step accepts: every check passes
+pub record Accepts (office : ℕ) (s : State) (b : List ℕ) (output : ℕ) : Type 0 where
+  pub known : office < 16
+  pub readable : checkOf b ≡ 0
+  pub in-room : roomOf b < roomCount
+  pub form : formRefusal office (eventOf b) ≡ 0
+  pub well : wellFormed s ≡ true
+  pub fits : fullRoom ≤ output
+  pub acts : AcceptsEvent s (eventOf b)
 
-pub step-accepts : (s : State) (b : List ℕ) (output : ℕ) → Accepts s b output
-    → stepOf s b output ≡ accepted (ruleOf s (eventOf b))
+-- on bytes that pass checks 4, 5 and 20 the step takes the event that they hold
+pub step-takes : (office : ℕ) (s : State) (b : List ℕ) (output : ℕ) → readCheck b ≡ 0
+    → stepOf office s b output ≡ takeOf office s (eventOf b) output
+unfolding stepOf takeOf
+step-takes office s b output e = rw e
+
+pub step-accepts : (office : ℕ) (s : State) (b : List ℕ) (output : ℕ) → Accepts office s b output
+    → stepOf office s b output ≡ accepted (ruleOf s (eventOf b))
+step-accepts office s b output h =
+    step-takes office s b output (read-facts b .1 (h .readable, h .in-room))
+    ∙ take-accepts office s (eventOf b) output
+    (record { known = h .known; form = h .form; well = h .well; fits = h .fits; acts = h .acts })
+
+pub step-cases : (office : ℕ) (s : State) (b : List ℕ) (output : ℕ)
+    → Refused s (stepOf office s b output) ⊎ Accepts office s b output
 unfolding stepOf
-step-accepts s b output h =
-    let r = readable-facts (wellFormed s) b output .1 (h .well, h .fits, read-facts b .1 (h .readable, h .in-room)) in
-    rw r (act-accepts s (eventOf b) (h .acts))
-
-pub step-cases : (s : State) (b : List ℕ) (output : ℕ) → Refused s (stepOf s b output) ⊎ Accepts s b output
-unfolding stepOf
-step-cases s b output = go (ℕ-discrete (unreadable (wellFormed s) b output) 0) (act-cases s (eventOf b))
-  where
-    go : Dec (unreadable (wellFormed s) b output ≡ 0) → Refused s (actOf s (eventOf b)) ⊎ AcceptsEvent s (eventOf b)
-        → Refused s (stepOf s b output) ⊎ Accepts s b output
-    go (no n) a = inl (rw (ne-eqb (unreadable (wellFormed s) b output) 0 n) (record { reason = n; is = refl }))
-    go (yes z) (inl r) = inl (rw z r)
-    go (yes z) (inr a) =
-        let f = readable-facts (wellFormed s) b output .0 z in
-        let r = read-facts b .0 (f .2) in
-        inr (record { well = f .0; fits = f .1; readable = r .0; in-room = r .1; acts = a })
-
--- the step on bytes that pass checks 4, 5 and 20 takes the event that they hold
-pub step-takes : (s : State) (b : List ℕ) (output : ℕ) → readCheck b ≡ 0 → stepOf s b output ≡ takeOf s (eventOf b) output
-unfolding stepOf unreadable takeOf
-step-takes s b output e = go (wellFormed s) refl (ltb output fullRoom) refl
-  where
-    go : (t : Bool) → wellFormed s ≡ t → (u : Bool) → ltb output fullRoom ≡ u
-        → stepOf s b output ≡ takeOf s (eventOf b) output
-    go true p true q = rw (p, q)
-    go true p false q = rw (p, q, e)
-    go false p u q = rw p
+step-cases office s b output =
+    behind-cases (readNumber office (readCheck b) (eventOf b)) s (actWith s (eventOf b) output)
+    (ActsWith s (eventOf b) output) (Accepts office s b output) (act-with-cases s (eventOf b) output)
+    (λ z a.
+    let f = reading-facts office (readCheck b) (eventOf b) .0 z in
+    let r = read-facts b .0 (f .1) in
+    record {
+      known = f .0;
+      readable = r .0;
+      in-room = r .1;
+      form = f .2;
+      well = a .well;
+      fits = a .fits;
+      acts = a .acts;
+    })
 
 -- other bytes leave the state and have nothing written
-pub step-skips : (s : State) (b : List ℕ) (output : ℕ) → (readCheck b ≡ 0 → ⊥) → (stepOf s b output .state ≡ s)
-    × (stepOf s b output .written ≡ [])
-step-skips s b output n = go (step-cases s b output)
+pub step-skips : (office : ℕ) (s : State) (b : List ℕ) (output : ℕ) → (readCheck b ≡ 0 → ⊥)
+    → (stepOf office s b output .state ≡ s) × (stepOf office s b output .written ≡ [])
+step-skips office s b output n = go (step-cases office s b output)
   where
-    go : Refused s (stepOf s b output) ⊎ Accepts s b output → (stepOf s b output .state ≡ s)
-        × (stepOf s b output .written ≡ [])
+    go : Refused s (stepOf office s b output) ⊎ Accepts office s b output
+        → (stepOf office s b output .state ≡ s) × (stepOf office s b output .written ≡ [])
     go (inl r) = (ap (λ (q : Result). q .state) (r .is), ap (λ (q : Result). q .written) (r .is))
     go (inr a) = absurd (n (read-facts b .1 (a .readable, a .in-room)))
 
 -- what holds of nothing done and of the rule of every event that is taken holds of an event, taken or not
-pub take-by : (s : State) (e : Event) (output : ℕ) (P : List Written → State → Type 0) → P [] s
-    → (Takes s e output → P (ruleOf s e .written) (ruleOf s e .state))
-    → P (takeOf s e output .written) (takeOf s e output .state)
-take-by s e output P z h = go (take-cases s e output)
+pub take-by : (office : ℕ) (s : State) (e : Event) (output : ℕ) (P : List Written → State → Type 0) → P [] s
+    → (Takes office s e output → P (ruleOf s e .written) (ruleOf s e .state))
+    → P (takeOf office s e output .written) (takeOf office s e output .state)
+take-by office s e output P z h = go (take-cases office s e output)
   where
-    go : Refused s (takeOf s e output) ⊎ Takes s e output → P (takeOf s e output .written) (takeOf s e output .state)
+    go : Refused s (takeOf office s e output) ⊎ Takes office s e output
+        → P (takeOf office s e output .written) (takeOf office s e output .state)
     go (inl r) = rw (r .is) z
-    go (inr a) = rw (take-accepts s e output a) (h a)
+    go (inr a) = rw (take-accepts office s e output a) (h a)
 
 -- what holds of nothing done and of every event, taken or not, holds of the step
-pub step-by : (s : State) (b : List ℕ) (output : ℕ) (P : List Written → State → Type 0) → P [] s
-    → ((e : Event) → P (takeOf s e output .written) (takeOf s e output .state))
-    → P (stepOf s b output .written) (stepOf s b output .state)
-step-by s b output P z h = go (ℕ-discrete (readCheck b) 0)
+pub step-by : (office : ℕ) (s : State) (b : List ℕ) (output : ℕ) (P : List Written → State → Type 0) → P [] s
+    → ((e : Event) → P (takeOf office s e output .written) (takeOf office s e output .state))
+    → P (stepOf office s b output .written) (stepOf office s b output .state)
+step-by office s b output P z h = go (ℕ-discrete (readCheck b) 0)
   where
-    go : Dec (readCheck b ≡ 0) → P (stepOf s b output .written) (stepOf s b output .state)
-    go (yes e) = rw (step-takes s b output e) (h (eventOf b))
-    go (no n) = let k = step-skips s b output n in rw (k .0, k .1) z
+    go : Dec (readCheck b ≡ 0) → P (stepOf office s b output .written) (stepOf office s b output .state)
+    go (yes e) = rw (step-takes office s b output e) (h (eventOf b))
+    go (no n) = let k = step-skips office s b output n in rw (k .0, k .1) z
 
 -- a refusal leaves the state and writes nothing
-pub refused-keeps : (s : State) (b : List ℕ) (output : ℕ) → (stepOf s b output .refusal ≡ 0 → ⊥)
-    → stepOf s b output ≡ refused (stepOf s b output .refusal) s
-refused-keeps s b output n = go (step-cases s b output)
+pub refused-keeps : (office : ℕ) (s : State) (b : List ℕ) (output : ℕ) → (stepOf office s b output .refusal ≡ 0 → ⊥)
+    → stepOf office s b output ≡ refused (stepOf office s b output .refusal) s
+refused-keeps office s b output n = go (step-cases office s b output)
   where
-    go : Refused s (stepOf s b output) ⊎ Accepts s b output → stepOf s b output ≡ refused (stepOf s b output .refusal) s
+    go : Refused s (stepOf office s b output) ⊎ Accepts office s b output
+        → stepOf office s b output ≡ refused (stepOf office s b output .refusal) s
     go (inl r) = r .is
-    go (inr a) = absurd (n (ap (λ (r : Result). r .refusal) (step-accepts s b output a)))
+    go (inr a) = absurd (n (ap (λ (r : Result). r .refusal) (step-accepts office s b output a)))
 
 -- an accepted step passes every check
-pub zero-accepts : (s : State) (b : List ℕ) (output : ℕ) → stepOf s b output .refusal ≡ 0 → Accepts s b output
-zero-accepts s b output z = go (step-cases s b output)
+pub zero-accepts : (office : ℕ) (s : State) (b : List ℕ) (output : ℕ) → stepOf office s b output .refusal ≡ 0
+    → Accepts office s b output
+zero-accepts office s b output z = go (step-cases office s b output)
   where
-    go : Refused s (stepOf s b output) ⊎ Accepts s b output → Accepts s b output
+    go : Refused s (stepOf office s b output) ⊎ Accepts office s b output → Accepts office s b output
     go (inl r) = absurd (r .reason z)
     go (inr a) = a
 
 -- an accepted step leaves a state that passes check 2
-pub step-well : (s : State) (b : List ℕ) (output : ℕ) → wellFormed s ≡ true → wellFormed (stepOf s b output .state) ≡ true
-step-well s b output w = go (step-cases s b output)
+pub step-well : (office : ℕ) (s : State) (b : List ℕ) (output : ℕ) → wellFormed s ≡ true
+    → wellFormed (stepOf office s b output .state) ≡ true
+step-well office s b output w = go (step-cases office s b output)
   where
-    go : Refused s (stepOf s b output) ⊎ Accepts s b output → wellFormed (stepOf s b output .state) ≡ true
+    go : Refused s (stepOf office s b output) ⊎ Accepts office s b output
+        → wellFormed (stepOf office s b output .state) ≡ true
     go (inl r) = rw (r .is) w
-    go (inr a) = rw (step-accepts s b output a) (a .acts .within)
+    go (inr a) = rw (step-accepts office s b output a) (a .acts .within)

@@ -1,153 +1,176 @@
 -- The step on a table: in its room a record meets the step of that room, and the other rooms stay.
 use mathlib.Core.Path.{_≡_, refl, sym, ap, _∙_}
 use mathlib.Core.Bool.{Bool, true, false}
-use mathlib.Core.List.{List, []}
-use mathlib.Core.Logic.{_⊎_, inl, inr}
+use mathlib.Core.List.{List}
+use mathlib.Core.Logic.{_⊎_, inl, inr, _↔_}
 use Prim.Native.Nat.{ℕ, _≤_, _<_}
 use native.Mathlib.Omega.{arith}
-use native.Mathlib.Decide.{ℕ-discrete, decLt}
-use lib.Dec.{eqb, ltb}
+use native.Mathlib.Decide.{ℕ-discrete}
+use lib.Dec.{eqb}
 use borrow.Author.Tests.{ne-eqb, le-leb, lt-leb, le-ltb}
-use Rattle.laws.specs.Upd.{ifb, upd}
-use Rattle.laws.proofs.Upd.{upd-same, upd-other, upd-self, upd-cases}
-use Rattle.laws.proofs.Fin.{if-cases, true-false}
-use Rattle.records.specs.Numbers.{roomCount, roomAbove}
+use Rattle.laws.proofs.Upd.{upd-other, upd-self, upd-cases}
+use Rattle.laws.proofs.Fin.{if-cases}
+use Rattle.records.specs.Numbers.{roomCount}
 use Rattle.records.specs.Layout.{checkOf, roomOf}
 use Rattle.rules.specs.State.{State}
-use Rattle.rules.specs.Refusals.{wellFormed, fullRoom, readCheck, unreadable, eventOf, Result, refused, actOf, stepOf}
-use Rattle.rules.specs.Refusals.{accepted, ruleOf, allBytes, size}
-use Rattle.rules.specs.Tables.{Table, wellTable, TableResult, refusedTable, inTable, barred, takeTable, stepTable}
-use Rattle.rule_laws.proofs.Steps.{Refused, Accepts, read-facts, readable-facts, step-cases}
-use Rattle.rule_laws.proofs.Steps.{step-accepts}
-use Rattle.rule_laws.proofs.Tables.{room-well, well-rooms}
-use Rattle.rule_laws.proofs.Reasons.{Answer, act-answer, unreadable-answer}
+use Rattle.rules.specs.Refusals.{wellFormed, fullRoom, readCheck, readNumber, formRefusal, eventOf, stepOf, accepted}
+use Rattle.rules.specs.Refusals.{ruleOf, allBytes, size}
+use Rattle.rules.specs.Tables.{Table, wellTable, RoomEvent, TableResult, refusedTable, inTable, actTable, noEvent}
+use Rattle.rules.specs.Tables.{eventIn, readOf, stepTable, roomCheck, takeTable}
+use Rattle.rule_laws.proofs.Steps.{Refused, Accepts, read-facts, reading-facts, step-cases, step-accepts}
+use Rattle.rule_laws.proofs.Tables.{room-well, well-rooms, act-2, acts-in-room, act-table-answer}
+use Rattle.rule_laws.proofs.Reasons.{Answer, read-answer, reading-answer}
 use Rattle.rule_laws.proofs.Sizes.{event-size}
 
-module _ (t : Table) (b : List ℕ) (output : ℕ) where
-  -- 2, whatever the record
-  pub step-table-2 : wellTable t ≡ false → stepTable t b output ≡ refusedTable 2 t
-  unfolding stepTable unreadable
-  step-table-2 w = rw w
+-- the reading call: its number, and the event where it passes
+module _ (office : ℕ) (b : List ℕ) where
+  pub read-refusal : readOf office b .refusal ≡ readNumber office (readCheck b) (eventOf b)
+  unfolding readOf
+  read-refusal = refl
+
+  pub read-event : readOf office b .refusal ≡ 0 → readOf office b .event ≡ eventIn b
+  unfolding readOf
+  read-event z = rw z
+
+  pub read-none : (readOf office b .refusal ≡ 0 → ⊥) → readOf office b .event ≡ noEvent
+  unfolding readOf
+  read-none n = rw (ne-eqb (readNumber office (readCheck b) (eventOf b)) 0 n)
+
+  -- it passes where the office is one of the sixteen and neither 4, 5 and 20 nor 6 to 10 and 19 apply
+  pub read-passes : (readOf office b .refusal ≡ 0)
+      ↔ ((office < 16) × (readCheck b ≡ 0) × (formRefusal office (eventOf b) ≡ 0))
+  unfolding readOf
+  read-passes = reading-facts office (readCheck b) (eventOf b)
+
+module _ (office : ℕ) (t : Table) (b : List ℕ) (output : ℕ) where
+  -- both in turn: a record that is refused by its reading, and one that is acted on
+  pub step-unread : (readOf office b .refusal ≡ 0 → ⊥)
+      → stepTable office t b output ≡ refusedTable (readOf office b .refusal) t
+  unfolding stepTable
+  step-unread n = rw (ne-eqb (readOf office b .refusal) 0 n)
+
+  pub step-acts : readOf office b .refusal ≡ 0 → stepTable office t b output ≡ actTable t (eventIn b) output
+  unfolding stepTable
+  step-acts z = rw z (ap (λ (e : RoomEvent). actTable t e output) (read-event office b z))
 
   -- a record of one of the rooms: what comes of it there
   pub step-in-room : wellTable t ≡ true → roomOf b < roomCount
-      → stepTable t b output ≡ inTable t (roomOf b) (stepOf (t (roomOf b)) b output)
-  unfolding stepTable stepOf
-  step-in-room w l =
-      let k = roomOf b in
-      rw (w, room-well t w k l) (go (eqb (unreadable true b output) 0) refl)
+      → stepTable office t b output ≡ inTable t (roomOf b) (stepOf office (t (roomOf b)) b output)
+  step-in-room w l = go (ℕ-discrete (readOf office b .refusal) 0)
     where
-      go : (u : Bool) → eqb (unreadable true b output) 0 ≡ u
-          → ifb (eqb (unreadable true b output) 0) (inTable t (roomOf b) (actOf (t (roomOf b)) (eventOf b)))
-          (refusedTable (unreadable true b output) t)
-          ≡ inTable t (roomOf b) (ifb (eqb (unreadable true b output) 0) (actOf (t (roomOf b)) (eventOf b))
-          (refused (unreadable true b output) (t (roomOf b))))
-      go true e = rw e
-      go false e = rw e (ap (λ (u : Table). refusedTable (unreadable true b output) u) (sym (upd-self t (roomOf b))))
+      go : Dec (readOf office b .refusal ≡ 0)
+          → stepTable office t b output ≡ inTable t (roomOf b) (stepOf office (t (roomOf b)) b output)
+      go (yes z) =
+          step-acts z ∙ acts-in-room t (eventIn b) output w l
+          ∙ (unfold stepOf in rw (sym (read-refusal office b) ∙ z))
+      go (no n) =
+          step-unread n ∙ ap (refusedTable (readOf office b .refusal)) (sym (upd-self t (roomOf b)))
+          ∙ (unfold stepOf in rw (← read-refusal office b, ne-eqb (readOf office b .refusal) 0 n))
 
-  -- 20, where 2 to 5 pass
-  pub step-table-20 : wellTable t ≡ true → fullRoom ≤ output → checkOf b ≡ 0 → roomCount ≤ roomOf b
-      → stepTable t b output ≡ refusedTable 20 t
-  unfolding stepTable unreadable readCheck
-  step-table-20 w f c l = rw (w, le-ltb output fullRoom f, c, le-leb roomCount (roomOf b) l)
+  -- 2, where the record passes its reading, whatever its room
+  pub step-table-2 : readOf office b .refusal ≡ 0 → wellTable t ≡ false
+      → stepTable office t b output ≡ refusedTable 2 t
+  step-table-2 z w = step-acts z ∙ act-2 t (eventIn b) output w
 
-  -- a record that passes 4, 5 and 20 is the event that it holds, handed to the table
-  pub step-table-takes : readCheck b ≡ 0
-      → stepTable t b output ≡ takeTable t (record { room = roomOf b; what = eventOf b }) output
-  unfolding stepTable unreadable takeTable barred
-  step-table-takes e =
-      let l = read-facts b .0 e .1 in
-      go (wellTable t) refl (ltb output fullRoom) refl l
+  -- 20, whatever the table and the output
+  pub step-table-20 : office < 16 → checkOf b ≡ 0 → roomCount ≤ roomOf b
+      → stepTable office t b output ≡ refusedTable 20 t
+  unfolding stepTable readOf readNumber readCheck
+  step-table-20 k c l =
+      let a : office ≤ 15 = omega arith in
+      rw (le-ltb 15 office a, c, le-leb roomCount (roomOf b) l)
+
+  -- a record that passes 4, 5 and 20 is the event that it holds, handed to the office
+  pub step-table-takes : readCheck b ≡ 0 → stepTable office t b output ≡ takeTable office t (eventIn b) output
+  step-table-takes e = go (ℕ-discrete (readOf office b .refusal) 0)
     where
-      go : (w : Bool) → wellTable t ≡ w → (s : Bool) → ltb output fullRoom ≡ s → roomOf b < roomCount
-          → stepTable t b output ≡ takeTable t (record { room = roomOf b; what = eventOf b }) output
-      go false w s f l = rw w
-      go true w true f l = rw (w, f)
-      go true w false f l = rw (w, f, e, lt-leb roomCount (roomOf b) l)
+      found : roomCheck (roomOf b) ≡ 0
+      found = rw (lt-leb roomCount (roomOf b) (read-facts b .0 e .1))
+
+      number : readNumber office (roomCheck (roomOf b)) (eventOf b) ≡ readOf office b .refusal
+      number = rw found (sym (read-refusal office b ∙ ap (λ (n : ℕ). readNumber office n (eventOf b)) e))
+
+      go : Dec (readOf office b .refusal ≡ 0) → stepTable office t b output ≡ takeTable office t (eventIn b) output
+      go (yes z) = step-acts z ∙ (unfold takeTable in rw (number, z))
+      go (no n) = step-unread n ∙ (unfold takeTable in rw (number, ne-eqb (readOf office b .refusal) 0 n))
 
   -- what comes of a record: refused, with the table as it was, or accepted in its room
   pub record TableAccepts : Type 0 where
     pub well : wellTable t ≡ true
-    pub accepts : Accepts (t (roomOf b)) b output
+    pub accepts : Accepts office (t (roomOf b)) b output
 
   pub table-accepts : TableAccepts
-      → stepTable t b output ≡ inTable t (roomOf b) (accepted (ruleOf (t (roomOf b)) (eventOf b)))
+      → stepTable office t b output ≡ inTable t (roomOf b) (accepted (ruleOf (t (roomOf b)) (eventOf b)))
   table-accepts h =
       step-in-room (h .well) (h .accepts .in-room)
-      ∙ ap (inTable t (roomOf b)) (step-accepts (t (roomOf b)) b output (h .accepts))
+      ∙ ap (inTable t (roomOf b)) (step-accepts office (t (roomOf b)) b output (h .accepts))
 
   pub record TableRefused : Type 0 where
-    pub reason : stepTable t b output .refusal ≡ 0 → ⊥
-    pub is : stepTable t b output ≡ refusedTable (stepTable t b output .refusal) t
+    pub reason : stepTable office t b output .refusal ≡ 0 → ⊥
+    pub is : stepTable office t b output ≡ refusedTable (stepTable office t b output .refusal) t
 
-  unread : (unreadable (wellTable t) b output ≡ 0 → ⊥) → TableRefused
-  unfolding stepTable
-  unread n = record {
-    reason = rw (ne-eqb (unreadable (wellTable t) b output) 0 n) n;
-    is = rw (ne-eqb (unreadable (wellTable t) b output) 0 n);
-  }
+  as-refused : (n : ℕ) → (n ≡ 0 → ⊥) → stepTable office t b output ≡ refusedTable n t → TableRefused
+  as-refused n d e = record { reason = rw e d; is = rw e }
 
   pub table-cases : TableRefused ⊎ TableAccepts
-  table-cases = go (ℕ-discrete (unreadable (wellTable t) b output) 0)
+  table-cases = go (ℕ-discrete (readOf office b .refusal) 0) (wellTable t) refl
     where
       refused-in : wellTable t ≡ true → roomOf b < roomCount
-          → Refused (t (roomOf b)) (stepOf (t (roomOf b)) b output) → TableRefused
+          → Refused (t (roomOf b)) (stepOf office (t (roomOf b)) b output) → TableRefused
       refused-in w l r =
-          let e = step-in-room w l in
-          let n = stepOf (t (roomOf b)) b output .refusal in
-          record {
-            reason = rw e (r .reason);
-            is = rw e (ap (inTable t (roomOf b)) (r .is) ∙ ap (refusedTable n) (upd-self t (roomOf b)));
-          }
+          let n = stepOf office (t (roomOf b)) b output .refusal in
+          as-refused n (r .reason) (step-in-room w l ∙ ap (inTable t (roomOf b)) (r .is)
+          ∙ ap (refusedTable n) (upd-self t (roomOf b)))
 
-      read : wellTable t ≡ true → roomOf b < roomCount
-          → Refused (t (roomOf b)) (stepOf (t (roomOf b)) b output) ⊎ Accepts (t (roomOf b)) b output
+      inside : wellTable t ≡ true → roomOf b < roomCount
+          → Refused (t (roomOf b)) (stepOf office (t (roomOf b)) b output) ⊎ Accepts office (t (roomOf b)) b output
           → TableRefused ⊎ TableAccepts
-      read w l (inl r) = inl (refused-in w l r)
-      read w l (inr a) = inr (record { well = w; accepts = a })
+      inside w l (inl r) = inl (refused-in w l r)
+      inside w l (inr a) = inr (record { well = w; accepts = a })
 
-      go : Dec (unreadable (wellTable t) b output ≡ 0) → TableRefused ⊎ TableAccepts
-      go (yes z) =
-          let f = readable-facts (wellTable t) b output .0 z in
-          read (f .0) (read-facts b .0 (f .2) .1) (step-cases (t (roomOf b)) b output)
-      go (no n) = inl (unread n)
+      go : Dec (readOf office b .refusal ≡ 0) → (u : Bool) → wellTable t ≡ u → TableRefused ⊎ TableAccepts
+      go (no n) u w = inl (as-refused (readOf office b .refusal) n (step-unread n))
+      go (yes z) false w = inl (as-refused 2 (omega arith) (step-table-2 z w))
+      go (yes z) true w =
+          inside w (read-facts b .0 (read-passes office b .0 z .1) .1) (step-cases office (t (roomOf b)) b output)
 
   -- every answer is 0 or one number of the list
-  pub table-answer : Answer (stepTable t b output .refusal)
+  pub table-answer : Answer (stepTable office t b output .refusal)
   unfolding stepTable
-  table-answer = if-cases (λ (q : TableResult). Answer (q .refusal)) (eqb (unreadable (wellTable t) b output) 0) _ _
-      (λ e. act-answer (t (roomOf b)) (eventOf b)) (λ e. unreadable-answer (wellTable t) b output)
+  table-answer = if-cases (λ (q : TableResult). Answer (q .refusal)) (eqb (readOf office b .refusal) 0) _ _
+      (λ e. act-table-answer t (readOf office b .event) output)
+      (λ e. unfold readOf in reading-answer office (readCheck b) (eventOf b) (read-answer b))
 
   -- what holds of a refusal, and of what an accepted record does in its room, holds of what comes of a record
   pub table-by : (P : TableResult → Type 0) → ((n : ℕ) → (n ≡ 0 → ⊥) → P (refusedTable n t))
       → (TableAccepts → P (inTable t (roomOf b) (accepted (ruleOf (t (roomOf b)) (eventOf b)))))
-      → P (stepTable t b output)
+      → P (stepTable office t b output)
   table-by P z h = go table-cases
     where
-      go : TableRefused ⊎ TableAccepts → P (stepTable t b output)
-      go (inl r) = rw (r .is) (z (stepTable t b output .refusal) (r .reason))
+      go : TableRefused ⊎ TableAccepts → P (stepTable office t b output)
+      go (inl r) = rw (r .is) (z (stepTable office t b output .refusal) (r .reason))
       go (inr a) = rw (table-accepts a) (h a)
 
   -- the other rooms stay
-  pub rooms-stay : (room : ℕ) → (room ≡ roomOf b → ⊥) → stepTable t b output .table room ≡ t room
+  pub rooms-stay : (room : ℕ) → (room ≡ roomOf b → ⊥) → stepTable office t b output .table room ≡ t room
   rooms-stay room n =
       table-by (λ q. q .table room ≡ t room) (λ m d. refl) (λ a. upd-other t (roomOf b) _ room n)
 
   -- a refusal leaves the table and writes nothing
-  pub table-keeps : (stepTable t b output .refusal ≡ 0 → ⊥)
-      → stepTable t b output ≡ refusedTable (stepTable t b output .refusal) t
+  pub table-keeps : (stepTable office t b output .refusal ≡ 0 → ⊥)
+      → stepTable office t b output ≡ refusedTable (stepTable office t b output .refusal) t
   table-keeps =
       table-by (λ q. (q .refusal ≡ 0 → ⊥) → q ≡ refusedTable (q .refusal) t) (λ m d n. refl) (λ a n. absurd (n refl))
 
   -- no record leaves a table that gets 2
-  pub step-table-well : wellTable t ≡ true → wellTable (stepTable t b output .table) ≡ true
+  pub step-table-well : wellTable t ≡ true → wellTable (stepTable office t b output .table) ≡ true
   step-table-well w = well-rooms _ (λ room l.
       table-by (λ q. wellFormed (q .table room) ≡ true) (λ m d. room-well t w room l)
       (λ a. upd-cases (λ (j : ℕ) (s : State). wellFormed s ≡ true) t (roomOf b) _ room (a .accepts .acts .within)
       (λ n. room-well t w room l)))
 
   -- no record has more written than every event has room in
-  pub table-size : size (stepTable t b output .written) ≤ fullRoom
+  pub table-size : size (stepTable office t b output .written) ≤ fullRoom
   unfolding allBytes
   table-size = table-by (λ q. size (q .written) ≤ fullRoom) (λ m d. omega arith)
       (λ a. event-size (t (roomOf b)) (eventOf b))

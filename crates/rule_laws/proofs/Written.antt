@@ -47,12 +47,12 @@ every-then s o f a b = every-append a b
 
 -- what holds of no records and of those of each event holds of those of an event taken or not, and of those of a step
 module _ (S : List Written → Type 0) (z : S []) (h : (s : State) (e : Event) → S (ruleOf s e .written))
-    (s : State) where
-  of-take : (e : Event) (output : ℕ) → S (takeOf s e output .written)
-  of-take e output = take-by s e output (λ ws t. S ws) z (λ a. h s e)
+    (office : ℕ) (s : State) where
+  of-take : (e : Event) (output : ℕ) → S (takeOf office s e output .written)
+  of-take e output = take-by office s e output (λ ws t. S ws) z (λ a. h s e)
 
-  of-step : (b : List ℕ) (output : ℕ) → S (stepOf s b output .written)
-  of-step b output = step-by s b output (λ ws t. S ws) z (λ e. of-take e output)
+  of-step : (b : List ℕ) (output : ℕ) → S (stepOf office s b output .written)
+  of-step b output = step-by office s b output (λ ws t. S ws) z (λ e. of-take e output)
 
 module _ {R : Written → Type 0} (each : EachMade R) where
   writing : Walk (λ s o. Every R (o .written)) (λ s o. Every R (o .written))
@@ -73,7 +73,7 @@ module _ {R : Written → Type 0} (each : EachMade R) where
   pub every-written : (s : State) (e : Event) → Every R (ruleOf s e .written)
   every-written s e = walk-event writing s e
 
-  pub every-step : (s : State) (b : List ℕ) (output : ℕ) → Every R (stepOf s b output .written)
+  pub every-step : (office : ℕ) (s : State) (b : List ℕ) (output : ℕ) → Every R (stepOf office s b output .written)
   every-step = of-step (Every R) none every-written
 
 -- "The view is written, after all else."
@@ -113,7 +113,7 @@ ending = record {
   finish = last-then;
 }
 
-pub view-last : (s : State) (b : List ℕ) (output : ℕ) → ViewLast (stepOf s b output .written)
+pub view-last : (office : ℕ) (s : State) (b : List ℕ) (output : ℕ) → ViewLast (stepOf office s b output .written)
 view-last = of-step ViewLast at-end (walk-event ending)
 
 -- "A used number or a view's start number is 0 for an office without a seat in the members."
@@ -130,7 +130,8 @@ seats-each = record {
   views = λ s a o lt e. getD-tab 16 (startOf s) o 0 lt ∙ rw e;
 }
 
-pub seats-only : (s : State) (b : List ℕ) (output : ℕ) → Every SeatsOnly (stepOf s b output .written)
+pub seats-only : (office : ℕ) (s : State) (b : List ℕ) (output : ℕ)
+    → Every SeatsOnly (stepOf office s b output .written)
 seats-only = every-step seats-each
 
 -- "No number in a state or record passes L."
@@ -205,12 +206,15 @@ writing-within = record {
 }
 
 -- every record that an event taken writes, and every one that a step writes
-pub take-within : (s : State) (e : Event) (output : ℕ) → Every RecordWithin (takeOf s e output .written)
-take-within s e output = take-by s e output (λ ws t. Every RecordWithin ws) none (λ a.
+pub take-within : (office : ℕ) (s : State) (e : Event) (output : ℕ)
+    → Every RecordWithin (takeOf office s e output .written)
+take-within office s e output = take-by office s e output (λ ws t. Every RecordWithin ws) none (λ a.
     let f = well-facts _ (a .acts .within) in
     walk-event writing-within s e .within
     (arrived-copied s e (accepted-fits s e (a .acts .passes)) (well-copied s (a .well)))
     (record { start = f .start; number = f .number; view = f .view }))
 
-pub records-within : (s : State) (b : List ℕ) (output : ℕ) → Every RecordWithin (stepOf s b output .written)
-records-within s b output = step-by s b output (λ ws t. Every RecordWithin ws) none (λ e. take-within s e output)
+pub records-within : (office : ℕ) (s : State) (b : List ℕ) (output : ℕ)
+    → Every RecordWithin (stepOf office s b output .written)
+records-within office s b output =
+    step-by office s b output (λ ws t. Every RecordWithin ws) none (λ e. take-within office s e output)

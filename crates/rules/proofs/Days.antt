@@ -23,8 +23,8 @@ pub each-reason : refusals ≡ reasons
 unfolding refusals reasons given
 each-reason =
     refl then refl then refl then refl then refl then refl then refl then refl then refl then refl then refl then refl
+    then refl then refl then refl then refl then refl then refl then refl then refl then refl then refl then refl
     then refl then refl
-    then refl then refl then refl then refl then refl then refl then refl then refl then refl then refl
 
 pub self-uses : selfUseComputed ≡ selfUseStated
 unfolding selfUseComputed selfUseStated dayA dayB dayC dayE dayJ nearLimit atLimit given

@@ -20,9 +20,10 @@ use Rattle.rules.specs.Rules.{slowCalled, joinedNumber, slowNumber, prop
 use Rattle.rules.specs.Rules.{agreed, startOf, viewOf, concluded, agreementTest, tests, changeRule, reportRule}
 use Rattle.rules.specs.Rules.{proposalRule}
 use Rattle.records.specs.Numbers.{limit}
-use Rattle.rules.specs.Refusals.{Result, slotWithin, wellFormed, readCheck, unreadable, eventOf, wrongSender, wrongKind}
+use Rattle.rules.specs.Refusals.{Result, slotWithin, wellFormed, readCheck, eventOf, wrongSender, wrongKind}
 use Rattle.rules.specs.Refusals.{wrongNumber, withoutSeat, strayUsed, usesItself, notAbove, usedAhead}
-use Rattle.rules.specs.Refusals.{proposalChecks, accepting, actOf, takeOf, fullRoom, stepOf, allBytes, size}
+use Rattle.rules.specs.Refusals.{readNumber, proposalChecks, accepting, actOf, actWith, takeOf, fullRoom, stepOf}
+use Rattle.rules.specs.Refusals.{allBytes, size}
 
 -- what is seen of a day: the refusal or 0, the bytes written, the records they are, the current view number
 pub record Day : Type 0 where
@@ -57,16 +58,16 @@ seat8 = 0b100000000
 abbrev two : ℕ → ℕ → List ℕ
 two a b = a ∷ b ∷ tab 14 (λ o. 0)
 
--- a record handed in, with the least output; to unfold it is to unfold the rules
+-- a record handed in for the state's own office, with the least output; to unfold it is to unfold the rules
 unfoldable pub given : State → List ℕ → Result
 unfolding upd allb anyb largest tab bytesAll bit has unionOf withoutOf serves encodeReport decodeReport encodeProposal
     decodeProposal encodeNotice encodeView roomOf markOf formFor formOf checkFor checkOf andThen fresh restarted netAfter
     withNet repeats seated opened noticeOf opens nextNumber ownProposal proposed receives proposesFast received
     matching matchingSlow aboveOwn usesOwn slowCalled joinedNumber slowNumber proposesSlow slowTest agreesKind isNone
     agreed startOf viewOf concluded agreementTest tests changeRule reportRule proposalRule slotWithin wellFormed
-    readCheck unreadable eventOf wrongSender wrongKind wrongNumber withoutSeat strayUsed usesItself notAbove usedAhead
-    proposalChecks accepting actOf takeOf stepOf allBytes
-given s b = stepOf s b fullRoom
+    readCheck eventOf wrongSender wrongKind wrongNumber withoutSeat strayUsed usesItself notAbove usedAhead
+    readNumber proposalChecks accepting actOf actWith takeOf stepOf allBytes
+given s b = stepOf (s .own) s b fullRoom
 
 -- what is handed in: a report of joining and of leaving seats, one of joining seats only, and P of document 01
 abbrev pub reported : State → ℕ → ℕ → Result
@@ -283,7 +284,7 @@ furtherStated =
     ∷ accepts 79 (aView 2 both 1 1 ∷ []) 2
     ∷ []
 
--- An input for each reason to refuse from 2 to 10, and for 19 and 20, at a fresh office 0: the smallest change to what
+-- An input for each reason to refuse from 1 to 10, and for 19 and 20, at a fresh office 0: the smallest change to what
 -- would be accepted.
 abbrev fromIn : ℕ → ℕ → ℕ → ℕ → ℕ → ℕ → List ℕ → Result
 fromIn room sender kind members start number used =
@@ -309,8 +310,9 @@ joined = joinedIn 0
 
 unfoldable pub refusals : List ℕ
 refusals =
-    stepOf (fresh 16) joined 185 .refusal
-    ∷ stepOf before joined 184 .refusal
+    given (fresh 16) joined .refusal
+    ∷ given (restarted 0 (limit + 1)) joined .refusal
+    ∷ stepOf 0 before joined 184 .refusal
     ∷ given before [] .refusal
     ∷ given before (0x53 ∷ 0x43 ∷ []) .refusal
     ∷ given before (0x4e ∷ 0x45 ∷ []) .refusal
@@ -336,7 +338,7 @@ refusals =
 
 -- the reasons, and that room 7 and the last are accepted; 5 comes before 20, and 20 before 6
 unfoldable pub reasons : List ℕ
-reasons = 2 ∷ 3 ∷ 4 ∷ 4 ∷ 5 ∷ 5 ∷ 20 ∷ 0 ∷ 5 ∷ 20 ∷ 6 ∷ 6 ∷ 7 ∷ 7 ∷ 8 ∷ 8 ∷ 8 ∷ 8 ∷ 9 ∷ 9 ∷ 10 ∷ 19 ∷ 0 ∷ []
+reasons = 1 ∷ 2 ∷ 3 ∷ 4 ∷ 4 ∷ 5 ∷ 5 ∷ 20 ∷ 0 ∷ 5 ∷ 20 ∷ 6 ∷ 6 ∷ 7 ∷ 7 ∷ 8 ∷ 8 ∷ 8 ∷ 8 ∷ 9 ∷ 9 ∷ 10 ∷ 19 ∷ 0 ∷ []
 
 -- A proposal that claims to have used itself, request 8. Office 1's used number stands last in P.
 unfoldable pub selfUseComputed : List Day

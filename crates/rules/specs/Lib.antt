@@ -3,6 +3,7 @@ pub mod Rules
 pub mod MarkFile
 pub mod Refusals
 pub mod Tables
+pub mod Turns
 pub mod Leaving
 pub mod Bounds
 pub mod Days

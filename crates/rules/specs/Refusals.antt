@@ -1,4 +1,5 @@
--- The reasons to refuse, in checking order, and the step: what comes of any bytes on any state.
+-- The reasons to refuse, in checking order, and the step: what comes of any bytes on any state. A record is read for
+-- an office, by 1, 4, 5, 20, 6 to 10 and 19; its event is acted on, by 2, 3, 6 to 10, 19 and 11 to 13.
 use mathlib.Core.Bool.{Bool, _&&_, _||_, not}
 use mathlib.Core.List.{List, [], _∷_, _++_}
 use Prim.Native.Nat.{ℕ, _+_, _*_}
@@ -60,12 +61,6 @@ readChecks b = numbered (checkOf b) ∷ record { number = 20; applies = roomAbov
 unfoldable pub readCheck : List ℕ → ℕ
 readCheck b = firstOf (readChecks b)
 
--- 2 to 5 and 20, before the record is read; `well` says that check 2 passes, `output` is the length of the lent output
-unfoldable pub unreadable : Bool → List ℕ → ℕ → ℕ
-unreadable well b output =
-    firstOf (record { number = 2; applies = not well } ∷ record { number = 3; applies = ltb output fullRoom }
-    ∷ numbered (readCheck b) ∷ [])
-
 -- a record that was read
 pub data Event : Type 0 where
   aReport : Report → Event
@@ -74,9 +69,9 @@ pub data Event : Type 0 where
 unfoldable pub eventOf : List ℕ → Event
 eventOf b = ifb (eqb (markOf b) (valueOf reportMark)) (aReport (decodeReport b)) (aProposal (decodeProposal b))
 
--- 6 to 10 and 19 look at the proposal and the own office
+-- 6 to 10 and 19 look at the proposal and an office
 unfoldable pub wrongSender : ℕ → Proposal → Bool
-wrongSender own p = ltb 15 (p .sender) || eqb (p .sender) own
+wrongSender office p = ltb 15 (p .sender) || eqb (p .sender) office
 
 unfoldable pub wrongKind : Proposal → Bool
 wrongKind p = not (eqb (p .kind) fast || eqb (p .kind) slow)
@@ -87,7 +82,7 @@ wrongNumber p =
     || aboveLimit (p .used)
 
 unfoldable pub withoutSeat : ℕ → Proposal → Bool
-withoutSeat own p = not (serves (p .members .bits) (p .sender)) || not (serves (p .members .bits) own)
+withoutSeat office p = not (serves (p .members .bits) (p .sender)) || not (serves (p .members .bits) office)
 
 unfoldable pub strayUsed : Proposal → Bool
 strayUsed p = strayNumber (p .members .bits) (p .used)
@@ -96,10 +91,23 @@ unfoldable pub usesItself : Proposal → Bool
 usesItself p = leb (p .number) (usedFor p (p .sender))
 
 abbrev pub formChecks : ℕ → Proposal → List Check
-formChecks own p =
-    record { number = 6; applies = wrongSender own p } ∷ record { number = 7; applies = wrongKind p }
-    ∷ record { number = 8; applies = wrongNumber p } ∷ record { number = 9; applies = withoutSeat own p }
+formChecks office p =
+    record { number = 6; applies = wrongSender office p } ∷ record { number = 7; applies = wrongKind p }
+    ∷ record { number = 8; applies = wrongNumber p } ∷ record { number = 9; applies = withoutSeat office p }
     ∷ record { number = 10; applies = strayUsed p } ∷ record { number = 19; applies = usesItself p } ∷ []
+
+-- of an event: a report passes them
+abbrev pub formRefusal : ℕ → Event → ℕ
+formRefusal office (aReport r) = 0
+formRefusal office (aProposal p) = firstOf (formChecks office p)
+
+-- the reading for an office: 1; what 4, 5 and 20 found; 6 to 10 and 19
+abbrev pub readingChecks : ℕ → ℕ → Event → List Check
+readingChecks office found e =
+    record { number = 1; applies = ltb 15 office } ∷ numbered found ∷ numbered (formRefusal office e) ∷ []
+
+unfoldable pub readNumber : ℕ → ℕ → Event → ℕ
+readNumber office found e = firstOf (readingChecks office found e)
 
 -- 11 and 12 look at what this office has accepted and proposed
 unfoldable pub notAbove : State → Proposal → Bool
@@ -143,15 +151,19 @@ accepting s o = ifb (wellFormed (o .state)) (accepted o) (refused 13 s)
 unfoldable pub actOf : State → Event → Result
 actOf s e = ifb (eqb (refusalOf s e) 0) (accepting s (ruleOf s e)) (refused (refusalOf s e) s)
 
--- an event handed to a state, with an output of this length: 2, 3, then 6 to 10, 19, 11 to 13
-unfoldable pub takeOf : State → Event → ℕ → Result
-takeOf s e output = ifb (wellFormed s) (ifb (ltb output fullRoom) (refused 3 s) (actOf s e)) (refused 2 s)
+-- acting with an output of this length: 2, 3, then 6 to 10, 19 by the own office, 11 to 13
+unfoldable pub actWith : State → Event → ℕ → Result
+actWith s e output = ifb (wellFormed s) (ifb (ltb output fullRoom) (refused 3 s) (actOf s e)) (refused 2 s)
 
--- the step in one room: the bytes of a record handed to its state
-unfoldable pub stepOf : State → List ℕ → ℕ → Result
-stepOf s b output =
-    let n = unreadable (wellFormed s) b output in
-    ifb (eqb n 0) (actOf s (eventOf b)) (refused n s)
+-- an event handed to an office: read for it, then acted on
+unfoldable pub takeOf : ℕ → State → Event → ℕ → Result
+takeOf office s e output = let n = readNumber office 0 e in ifb (eqb n 0) (actWith s e output) (refused n s)
+
+-- the step in one room: a record is read for an office, then its event acted on
+unfoldable pub stepOf : ℕ → State → List ℕ → ℕ → Result
+stepOf office s b output =
+    let n = readNumber office (readCheck b) (eventOf b) in
+    ifb (eqb n 0) (actWith s (eventOf b) output) (refused n s)
 
 -- the bytes written: each record names the room
 abbrev pub bytesOf : ℕ → Written → List ℕ

@@ -5,6 +5,7 @@ use Prim.Native.Nat.{ℕ}
 use lib.ListN.{getD}
 use Rattle.laws.specs.Tab.{tab}
 use Rattle.laws.specs.Upd.{ifb, upd}
+use Rattle.records.specs.declared.Report.{Report}
 use Rattle.records.specs.declared.Proposal.{Proposal}
 use Rattle.records.specs.declared.View.{View}
 use Rattle.seats.specs.declared.SeatSet.{SeatSet}
@@ -47,6 +48,9 @@ kindOf Slow = slow
 -- sixteen zeros
 abbrev pub zeros : List ℕ
 zeros = tab 16 (λ o. 0)
+
+abbrev pub noReport : Report
+noReport = record { joining = record { bits = 0 }; leaving = record { bits = 0 } }
 
 abbrev pub noProposal : Proposal
 noProposal = record { sender = 0; kind = 0; members = record { bits = 0 }; start = 0; number = 0; used = zeros }

@@ -1,5 +1,6 @@
 -- Eight rooms on one server (request 9): one table holds eight room states. An event is of a room; check 2 looks at
--- the whole table, and the event acts on its room's state alone.
+-- the whole table, and the event acts on its room's state alone. Reading and acting (request 10): one call reads a
+-- record for an office and gives the event, the other acts on an event.
 use mathlib.Core.Bool.{Bool, not}
 use mathlib.Core.List.{List, [], _∷_}
 use Prim.Native.Nat.{ℕ}
@@ -9,10 +10,10 @@ use Rattle.laws.specs.Fin.{allb}
 use Rattle.laws.specs.Upd.{ifb, upd}
 use Rattle.records.specs.Numbers.{roomCount, roomAbove}
 use Rattle.records.specs.Layout.{roomOf}
-use Rattle.rules.specs.State.{State}
+use Rattle.rules.specs.State.{State, noReport}
 use Rattle.rules.specs.Rules.{Written, fresh, restarted}
-use Rattle.rules.specs.Refusals.{wellFormed, madeOf, restartOf, fullRoom, unreadable, Event, eventOf, Result}
-use Rattle.rules.specs.Refusals.{actOf}
+use Rattle.rules.specs.Refusals.{wellFormed, madeOf, restartOf, fullRoom, readCheck, readNumber, Event, aReport}
+use Rattle.rules.specs.Refusals.{eventOf, Result, actOf}
 
 -- the state of each room
 abbrev pub Table : Type 0
@@ -71,14 +72,43 @@ barred t e output =
     ∷ record { number = 3; applies = ltb output fullRoom } ∷ record { number = 20; applies = roomAbove (e .room) }
     ∷ [])
 
--- an event handed to a table, with an output of length output: 2, 3, 20, then 6 to 10, 19, 11 to 13 in its room
-unfoldable pub takeTable : Table → RoomEvent → ℕ → TableResult
-takeTable t e output =
+-- the acting call: an event on a table, with an output of this length: 2, 3, 20, then 6 to 10, 19, 11 to 13 in its
+-- room
+unfoldable pub actTable : Table → RoomEvent → ℕ → TableResult
+actTable t e output =
     ifb (eqb (barred t e output) 0) (inTable t (e .room) (actOf (t (e .room)) (e .what)))
     (refusedTable (barred t e output) t)
 
--- the step: the bytes of a record handed to a table, with an output of this length
-unfoldable pub stepTable : Table → List ℕ → ℕ → TableResult
-stepTable t b output =
-    let n = unreadable (wellTable t) b output in
-    ifb (eqb n 0) (inTable t (roomOf b) (actOf (t (roomOf b)) (eventOf b))) (refusedTable n t)
+-- what the reading call gives: the refusal or 0, and the event; with a refusal an empty report of room 0
+pub record ReadResult : Type 0 where
+  pub refusal : ℕ
+  pub event : RoomEvent
+
+abbrev pub noEvent : RoomEvent
+noEvent = record { room = 0; what = aReport noReport }
+
+-- the event of a record
+abbrev pub eventIn : List ℕ → RoomEvent
+eventIn b = record { room = roomOf b; what = eventOf b }
+
+-- the reading call: a record for an office: 1, 4, 5, 20, then 6 to 10 and 19
+unfoldable pub readOf : ℕ → List ℕ → ReadResult
+readOf office b =
+    let n = readNumber office (readCheck b) (eventOf b) in
+    record { refusal = n; event = ifb (eqb n 0) (eventIn b) noEvent }
+
+-- the step: both in turn
+unfoldable pub stepTable : ℕ → Table → List ℕ → ℕ → TableResult
+stepTable office t b output =
+    let r = readOf office b in
+    ifb (eqb (r .refusal) 0) (actTable t (r .event) output) (refusedTable (r .refusal) t)
+
+-- an event handed to an office, of which no bytes are looked at: 1, 20, 6 to 10 and 19 as in its reading, then it is
+-- acted on
+abbrev pub roomCheck : ℕ → ℕ
+roomCheck room = ifb (roomAbove room) 20 0
+
+unfoldable pub takeTable : ℕ → Table → RoomEvent → ℕ → TableResult
+takeTable office t e output =
+    let n = readNumber office (roomCheck (e .room)) (e .what) in
+    ifb (eqb n 0) (actTable t e output) (refusedTable n t)

@@ -75,7 +75,7 @@ with-file = refl
 
 -- the same of one office, which acts to the end at last: the start numbers and proposal numbers that left, the file
 abbrev told-again : Input
-told-again = record { event = aReport (joins 0b10001); room = fullRoom }
+told-again = record { office = 0; event = aReport (joins 0b10001); room = fullRoom }
 
 abbrev turns : List FileTurn
 turns = cutAfter told-again 9 ∷ cutAfter told-again 11 ∷ cutAfter told-again 12 ∷ acts told-again ∷ []

@@ -70,8 +70,9 @@ made-tells s t u e p m o lt =
     let a = e o lt in
     rw (m .used o lt) (if-le (serves (t .net .bits) o) (usedAt t o) 0 (usedAt s o) (omega arith) (omega arith))
 
-take-tells : (s : State) (e : Event) (room : ℕ) → EachProposal (TellsOf (usedAt s)) (takeOf s e room .written)
-take-tells s e room = take-by s e room (λ ws t. EachProposal (TellsOf (usedAt s)) ws) none
+take-tells : (office : ℕ) (s : State) (e : Event) (room : ℕ)
+    → EachProposal (TellsOf (usedAt s)) (takeOf office s e room .written)
+take-tells office s e room = take-by office s e room (λ ws t. EachProposal (TellsOf (usedAt s)) ws) none
     (λ a. each-map (made-tells s _ _ (arrived-used s e)) (makes-event s e .sends))
 
 -- what is at or above all that left
@@ -183,8 +184,8 @@ module _ (F : ℕ → Bool) where
     unfolding begunWrites
     begun nothing-begun a = nothing
     begun (begun-report r room) a = record {
-      climbs = unfold reportAnswer in ascending-climbs (take-rises mine (aReport r) room .numbers);
-      tells = unfold reportAnswer in take-tells mine (aReport r) room;
+      climbs = unfold reportAnswer in ascending-climbs (take-rises me mine (aReport r) room .numbers);
+      tells = unfold reportAnswer in take-tells me mine (aReport r) room;
       sends = report-sends F w g me r room seen core q (q .0, a .1 .0, a .1 .1);
     }
     begun (begun-delivery i room) a = go (w .link i me) refl
@@ -192,8 +193,9 @@ module _ (F : ℕ → Bool) where
         go : (l : List Item) → w .link i me ≡ l → BegunAnswer (frontWrites w me room l)
         go [] e = nothing
         go (x ∷ l) e = record {
-          climbs = unfold proposalAnswer in ascending-climbs (take-rises mine (aProposal (x .proposal)) room .numbers);
-          tells = unfold proposalAnswer in take-tells mine (aProposal (x .proposal)) room;
+          climbs = unfold proposalAnswer in
+              ascending-climbs (take-rises me mine (aProposal (x .proposal)) room .numbers);
+          tells = unfold proposalAnswer in take-tells me mine (aProposal (x .proposal)) room;
           sends = delivery-sends F w g i me room x l seen core q e (a .1 .0, q .0, a .1 .1);
         }
 
@@ -294,14 +296,14 @@ module _ (F : ℕ → Bool) where
     unfolding begunWrites
     named nothing-begun lt = none
     named (begun-report r room) lt = unfold reportAnswer in
-        each-map (λ p e. e ∙ seen .owns o lt (below-sixteen F lt)) (step-names (w .state o) (aReport r) room .1)
+        each-map (λ p e. e ∙ seen .owns o lt (below-sixteen F lt)) (step-names o (w .state o) (aReport r) room .1)
     named (begun-delivery i room) lt = go (w .link i o)
       where
         go : (l : List Item) → EachProposal (λ p. p .sender ≡ o) (frontWrites w o room l)
         go [] = none
         go (x ∷ l) = unfold proposalAnswer in
             each-map (λ p e. e ∙ seen .owns o lt (below-sixteen F lt))
-            (step-names (w .state o) (aProposal (x .proposal)) room .1)
+            (step-names o (w .state o) (aProposal (x .proposal)) room .1)
 
     ends-outside : (b : Underway) → o < 16 → (v : World) (h : Offices) → SeenAll F v h
         → SeenAll F (answered v o (cutAnswer w o b left m)) h

@@ -138,13 +138,15 @@ module _ (F : ℕ → Bool) where
             behind = rw (sim-me .own, n) (let z = u in omega arith);
           }
 
-      accepted-or : Takes own-state (aProposal p) room
-          ⊎ (Refused own-state (takeOf own-state (aProposal p) room) × Barred (takeOf own-state (aProposal p) room))
+      accepted-or : Takes me own-state (aProposal p) room
+          ⊎ (Refused own-state (takeOf me own-state (aProposal p) room)
+          × Barred (takeOf me own-state (aProposal p) room))
       accepted-or =
-          accepted-or-barred own-state (aProposal p) room (good-me .passes) (facts-check own-state (x .proposal) facts)
+          accepted-or-barred me own-state (aProposal p) room (sim-me .own) (good-me .passes)
+          (facts-check own-state (x .proposal) facts)
 
     -- refused: the front of the link is lost
-    module _ (r : Refused own-state (takeOf own-state (aProposal p) room)) where
+    module _ (r : Refused own-state (takeOf me own-state (aProposal p) room)) where
       refused-seen : (h : Offices) → Seen F me (withLink w i me l) h → Sim own-state h me
           → SeenAll F (answered (withLink w i me l) me (proposalAnswer w me (x .proposal) room)) h
       unfolding proposalAnswer answered withLink
@@ -164,7 +166,7 @@ module _ (F : ℕ → Bool) where
             sim-me,
       )
 
-      refused-from : InF F i → Barred (takeOf own-state (aProposal p) room) → Acted
+      refused-from : InF F i → Barred (takeOf me own-state (aProposal p) room) → Acted
       unfolding relink proposalAnswer
       refused-from from b =
           let f : FromF F i me = (from, q .0, apart) in
@@ -184,10 +186,10 @@ module _ (F : ℕ → Bool) where
           )
 
     -- accepted
-    module _ (acc : Takes own-state (aProposal p) room) where
+    module _ (acc : Takes me own-state (aProposal p) room) where
       accepted-as : proposalAnswer w me (x .proposal) room ≡ accepted (proposalRule own-state p)
       unfolding proposalAnswer
-      accepted-as = take-accepts own-state (aProposal p) room acc
+      accepted-as = take-accepts me own-state (aProposal p) room acc
 
       within-limit : wellFormed (proposalRule own-state p .state) ≡ true
       within-limit = acc .acts .within
@@ -316,29 +318,30 @@ module _ (F : ℕ → Bool) where
     pub delivery-acts : Acted
     delivery-acts = go (F i) refl
       where
-        from : InF F i → Takes own-state (aProposal p) room
-            ⊎ (Refused own-state (takeOf own-state (aProposal p) room) × Barred (takeOf own-state (aProposal p) room))
+        from : InF F i → Takes me own-state (aProposal p) room
+            ⊎ (Refused own-state (takeOf me own-state (aProposal p) room)
+            × Barred (takeOf me own-state (aProposal p) room))
             → Acted
         from f (inl a) = accepted-acts a
         from f (inr r) = refused-from (r .0) f (r .1)
 
-        outside : (InF F i → ⊥) → Refused own-state (takeOf own-state (aProposal p) room)
-            ⊎ Takes own-state (aProposal p) room → Acted
+        outside : (InF F i → ⊥) → Refused own-state (takeOf me own-state (aProposal p) room)
+            ⊎ Takes me own-state (aProposal p) room → Acted
         outside o (inl r) = refused-outside r o
         outside o (inr a) = accepted-acts a
 
         go : (t : Bool) → F i ≡ t → Acted
         go true e = from (i-below, e) (accepted-or (i-below, e))
-        go false e = outside (λ f. true-false _ (f .1) e) (take-cases own-state (aProposal p) room)
+        go false e = outside (λ f. true-false _ (f .1) e) (take-cases me own-state (aProposal p) room)
 
     -- the proposals of its answer
     pub delivery-sends : Sends F me (proposalAnswer w me (x .proposal) room .written)
-    delivery-sends = go (take-cases own-state (aProposal p) room)
+    delivery-sends = go (take-cases me own-state (aProposal p) room)
       where
         nothing : Sends F me []
         nothing = record { valid = none; names = none }
 
-        of : (a : Takes own-state (aProposal p) room) → Dec (p .members .bits ≡ own-state .net .bits)
+        of : (a : Takes me own-state (aProposal p) room) → Dec (p .members .bits ≡ own-state .net .bits)
             → Sends F me (proposalRule own-state p .written)
         of a (no n) = rw (other-members own-state p n) nothing
         of a (yes same) =
@@ -354,7 +357,7 @@ module _ (F : ℕ → Bool) where
               names = each-map (λ p n. n .sender ∙ own-is a) (makes .sends);
             }
 
-        go : Refused own-state (takeOf own-state (aProposal p) room) ⊎ Takes own-state (aProposal p) room
+        go : Refused own-state (takeOf me own-state (aProposal p) room) ⊎ Takes me own-state (aProposal p) room
             → Sends F me (proposalAnswer w me (x .proposal) room .written)
         go (inl r) = unfold proposalAnswer in rw (r .is) nothing
         go (inr a) = rw (accepted-as a) (of a (ℕ-discrete (p .members .bits) (own-state .net .bits)))

@@ -63,23 +63,24 @@ module _ (own : ℕ) (P : State → Type 0) (Q : Written → Type 0) (I : Input 
       begun-each : (b : Underway) → Every Q (begunWrites w o b)
       unfolding begunWrites reportAnswer proposalAnswer answerTo
       begun-each nothing-begun = none
-      begun-each (begun-report r room) = given (record { event = aReport r; room = room }) .1
+      begun-each (begun-report r room) = given (record { office = o; event = aReport r; room = room }) .1
       begun-each (begun-delivery i room) = front (w .link i o)
         where
           front : (l : List Item) → Every Q (frontWrites w o room l)
           front [] = none
-          front (x ∷ l) = given (record { event = aProposal (x .proposal); room = room }) .1
+          front (x ∷ l) = given (record { office = o; event = aProposal (x .proposal); room = room }) .1
 
     next-log : (w : World) (e : WorldEvent) → OwnLog w → OwnLog (next w e)
     unfolding next idle withLink takenUp cutAnswer reportAnswer proposalAnswer answerTo
     next-log w (report o r room) k =
-        answered-log w o (reportAnswer w o r room) k (λ is. given w k o is (record { event = aReport r; room = room }))
+        answered-log w o (reportAnswer w o r room) k
+        (λ is. given w k o is (record { office = o; event = aReport r; room = room }))
     next-log w (delivery i j room) k = front (w .link i j)
       where
         front : (l : List Item) → OwnLog (delivered w i j room l)
         front [] = k
         front (x ∷ l) = answered-log (withLink w i j l) j (proposalAnswer w j (x .proposal) room) k
-            (λ is. given w k j is (record { event = aProposal (x .proposal); room = room }))
+            (λ is. given w k j is (record { office = j; event = aProposal (x .proposal); room = room }))
     next-log w (loss i j place) k = k
     next-log w (cut o b left m) k = answered-log (takenUp w o b) o (cutAnswer w o b left m) (taken b)
         (λ is. (subst (λ (i : ℕ). P (restarted i m)) (sym is) (again m), every-take left (begun-each w k o is b)))

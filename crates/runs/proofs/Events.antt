@@ -66,7 +66,7 @@ module _ (F : ℕ → Bool) where
       → SeenAll F (answered w o (reportAnswer w o rep room)) g
   unfolding reportAnswer
   report-outside w g o rep room seen out lt =
-      let n = step-names (w .state o) (aReport rep) room in
+      let n = step-names o (w .state o) (aReport rep) room in
       let own : w .state o .own ≡ o = seen .owns o lt (below-sixteen F lt) in
       seen-outside F w g o _ seen lt out (n .0 ∙ own) (each-map (λ p e. e ∙ own) (n .1))
 
@@ -81,7 +81,7 @@ module _ (F : ℕ → Bool) where
       ends : (h : Offices) → Linked F w g h 16 i j l
           → SeenAll F (answered (withLink w i j l) j (proposalAnswer w j (x .proposal) room)) h
       ends h k =
-          let n = step-names (w .state j) (aProposal (x .proposal)) room in
+          let n = step-names j (w .state j) (aProposal (x .proposal)) room in
           let own : w .state j .own ≡ j = seen .owns j (among .1) (below-sixteen F (among .1)) in
           seen-outside F (withLink w i j l) h j _ (seen-linked F w g h 16 i j l seen k) (among .1) out (n .0 ∙ own)
           (each-map (λ p e. e ∙ own) (n .1))

@@ -49,12 +49,12 @@ module _ (f : List ℕ) (log : List SentRecord) (ws : List Written) (t : ℕ) (k
 begun-low : (w : World) (o : ℕ) (b : Underway) → Every (λ w. largestIn w ≤ limit) (begunWrites w o b)
 unfolding begunWrites
 begun-low w o nothing-begun = none
-begun-low w o (begun-report r room) = unfold reportAnswer in take-largest (w .state o) (aReport r) room
+begun-low w o (begun-report r room) = unfold reportAnswer in take-largest o (w .state o) (aReport r) room
 begun-low w o (begun-delivery i room) = go (w .link i o)
   where
     go : (l : List Item) → Every (λ w. largestIn w ≤ limit) (frontWrites w o room l)
     go [] = none
-    go (x ∷ l) = unfold proposalAnswer in take-largest (w .state o) (aProposal (x .proposal)) room
+    go (x ∷ l) = unfold proposalAnswer in take-largest o (w .state o) (aProposal (x .proposal)) room
 
 module _ (F : ℕ → Bool) where
   abbrev AllCovered : Filed → Type 0

@@ -53,7 +53,7 @@ module _ (own : ℕ) (lt : own < 16) where
 
     low : (h : Input) → Every (λ w. largestIn w ≤ limit) (answerTo (k .state) h .written)
     unfolding answerTo
-    low h = take-largest (k .state) (h .event) (h .room)
+    low h = take-largest (h .office) (k .state) (h .event) (h .room)
 
     joined : (P : Written → Type 0) (us : List Written) → Every P us → Every P l → Every P (l ++ us)
     joined P us e d = every-append d e

@@ -31,26 +31,26 @@ use Rattle.runs.specs.Begins.{AllAmong}
 use Rattle.runs.proofs.Proposals.{report-net, proposal-net}
 
 -- the net view after a step
-step-net : (s : State) (e : Event) (room net : ℕ) → ruleOf s e .state .net .bits ≡ net
-    → takeOf s e room .state .net .bits ≡ ifb (eqb (takeOf s e room .refusal) 0) net (s .net .bits)
-step-net s e room net f = go (take-cases s e room)
+step-net : (office : ℕ) (s : State) (e : Event) (room net : ℕ) → ruleOf s e .state .net .bits ≡ net
+    → takeOf office s e room .state .net .bits ≡ ifb (eqb (takeOf office s e room .refusal) 0) net (s .net .bits)
+step-net office s e room net f = go (take-cases office s e room)
   where
-    go : Refused s (takeOf s e room) ⊎ Takes s e room
-        → takeOf s e room .state .net .bits ≡ ifb (eqb (takeOf s e room .refusal) 0) net (s .net .bits)
-    go (inl r) = rw (ne-eqb (takeOf s e room .refusal) 0 (r .reason))
+    go : Refused s (takeOf office s e room) ⊎ Takes office s e room
+        → takeOf office s e room .state .net .bits ≡ ifb (eqb (takeOf office s e room .refusal) 0) net (s .net .bits)
+    go (inl r) = rw (ne-eqb (takeOf office s e room .refusal) 0 (r .reason))
         (ap (λ (q : Result). q .state .net .bits) (r .is))
-    go (inr a) = rw (take-accepts s e room a) f
+    go (inr a) = rw (take-accepts office s e room a) f
 
-step-report-net : (s : State) (r : Report) (room : ℕ)
-    → takeOf s (aReport r) room .state .net .bits ≡ ifb (eqb (takeOf s (aReport r) room .refusal) 0)
+step-report-net : (office : ℕ) (s : State) (r : Report) (room : ℕ)
+    → takeOf office s (aReport r) room .state .net .bits ≡ ifb (eqb (takeOf office s (aReport r) room .refusal) 0)
     (netAfter (s .net .bits) r) (s .net .bits)
-step-report-net s r room = step-net s (aReport r) room _ (report-net s r)
+step-report-net office s r room = step-net office s (aReport r) room _ (report-net s r)
 
-step-proposal-net : (s : State) (p : Proposal) (room : ℕ)
-    → takeOf s (aProposal p) room .state .net .bits ≡ s .net .bits
-step-proposal-net s p room =
-    step-net s (aProposal p) room (s .net .bits) (proposal-net s p)
-    ∙ if-same (eqb (takeOf s (aProposal p) room .refusal) 0) (s .net .bits)
+step-proposal-net : (office : ℕ) (s : State) (p : Proposal) (room : ℕ)
+    → takeOf office s (aProposal p) room .state .net .bits ≡ s .net .bits
+step-proposal-net office s p room =
+    step-net office s (aProposal p) room (s .net .bits) (proposal-net s p)
+    ∙ if-same (eqb (takeOf office s (aProposal p) room .refusal) 0) (s .net .bits)
 
 -- an event gives office i the net view that the statement counts
 net-one : (w : World) (e : WorldEvent) (i : ℕ) → Among e
@@ -58,14 +58,14 @@ net-one : (w : World) (e : WorldEvent) (i : ℕ) → Among e
 unfolding next answered reportAnswer cutAnswer
 net-one w (report o r room) i a = go (ℕ-discrete i o)
   where
-    go : Dec (i ≡ o) → upd (w .state) o (takeOf (w .state o) (aReport r) room .state) i .net .bits
-        ≡ ifb (eqb o i && eqb (takeOf (w .state o) (aReport r) room .refusal) 0) (netAfter (w .state i .net .bits) r)
+    go : Dec (i ≡ o) → upd (w .state) o (takeOf o (w .state o) (aReport r) room .state) i .net .bits
+        ≡ ifb (eqb o i && eqb (takeOf o (w .state o) (aReport r) room .refusal) 0) (netAfter (w .state i .net .bits) r)
         (w .state i .net .bits)
     go (yes e) =
-        rw (e, upd-same (w .state) o (takeOf (w .state o) (aReport r) room .state), eq-eqb o o refl)
-        (step-report-net (w .state o) r room)
+        rw (e, upd-same (w .state) o (takeOf o (w .state o) (aReport r) room .state), eq-eqb o o refl)
+        (step-report-net o (w .state o) r room)
     go (no n) = rw (
-      upd-other (w .state) o (takeOf (w .state o) (aReport r) room .state) i n,
+      upd-other (w .state) o (takeOf o (w .state o) (aReport r) room .state) i n,
       ne-eqb o i (λ e. n (sym e)),
     )
 net-one w (delivery a b room) i m = go (w .link a b)
@@ -74,7 +74,7 @@ net-one w (delivery a b room) i m = go (w .link a b)
     go [] = unfold idle in refl
     go (x ∷ l) = unfold proposalAnswer withLink in
         upd-cases (λ (i : ℕ) (s : State). s .net .bits ≡ w .state i .net .bits) (w .state) b _ i
-        (step-proposal-net (w .state b) (x .proposal) room) (λ n. refl)
+        (step-proposal-net b (w .state b) (x .proposal) room) (λ n. refl)
 net-one w (loss a b place) i m = unfold idle withLink in refl
 net-one w (cut o b left m) i a = go b (ℕ-discrete i o)
   where
@@ -122,18 +122,19 @@ changing-report w (cut o b left m) i x n = go (eqb o i) refl
 pub unchanged-silent : (w : World) (o room : ℕ) (r : Report) → Among (report o r room)
     → next w (report o r room) .state o .net .bits ≡ w .state o .net .bits → reportAnswer w o r room .written ≡ []
 unfolding next answered reportAnswer
-unchanged-silent w o room r m e = go (take-cases s (aReport r) room)
+unchanged-silent w o room r m e = go (take-cases o s (aReport r) room)
   where
     s : State
     s = w .state o
 
-    go : Refused s (takeOf s (aReport r) room) ⊎ Takes s (aReport r) room → takeOf s (aReport r) room .written ≡ []
+    go : Refused s (takeOf o s (aReport r) room) ⊎ Takes o s (aReport r) room
+        → takeOf o s (aReport r) room .written ≡ []
     go (inl f) = ap (λ (q : Result). q .written) (f .is)
     go (inr a) =
-        let did : takeOf s (aReport r) room ≡ accepted (reportRule s r) = take-accepts s (aReport r) room a in
+        let did : takeOf o s (aReport r) room ≡ accepted (reportRule s r) = take-accepts o s (aReport r) room a in
         let same : netAfter (s .net .bits) r ≡ s .net .bits
         = sym (report-net s r) ∙ ap (λ (q : Result). q .state .net .bits) (sym did)
-        ∙ ap (λ (t : State). t .net .bits) (sym (upd-same (w .state) o (takeOf s (aReport r) room .state))) ∙ e in
+        ∙ ap (λ (t : State). t .net .bits) (sym (upd-same (w .state) o (takeOf o s (aReport r) room .state))) ∙ e in
         ap (λ (q : Result). q .written) did ∙ ap (λ (u : Outcome). u .written) (repeat-rule s r (net-repeat s r same))
 
 -- by the reports of the list up to event n, and one event more

@@ -15,6 +15,7 @@ use Rattle.runs.specs.Office.{Input, answerTo, LogEntry, stateAfter, log
 
 abbrev joins : ℕ → Input
 joins x = record {
+  office = 0;
   event = aReport (record { joining = record { bits = x }; leaving = record { bits = 0 } });
   room = fullRoom;
 }
@@ -36,7 +37,7 @@ made sender members start number used =
 
 -- what is handed in: the seats 0 and 4 join, and the proposal of office 1 arrives
 abbrev fromOffice1 : Input
-fromOffice1 = record { event = aProposal (made 1 0b10001 1 1 zeros); room = fullRoom }
+fromOffice1 = record { office = 0; event = aProposal (made 1 0b10001 1 1 zeros); room = fullRoom }
 
 abbrev threeDays : List Input
 threeDays = joins 0b1 ∷ joins 0b10000 ∷ fromOffice1 ∷ []

@@ -48,7 +48,7 @@ module _ (own : ℕ) (lt : own < 16) where
   unfolding answerTo
   answer-seats s h fits f =
       let e = h .event in
-      take-by s e (h .room) (λ ws t. OwnSeats own t × EachProposal FitsProposal ws) (f, none) (λ a.
+      take-by (h .office) s e (h .room) (λ ws t. OwnSeats own t × EachProposal FitsProposal ws) (f, none) (λ a.
       let g = arrived-seats s e fits f in
       let m = makes-event s e in
       let within : (o : ℕ) → o < 16 → usedAt (arrived s e) o ≤ limit

@@ -23,7 +23,10 @@ fresh-standing own lt = record { office = fresh-reads own .own-is; well = fresh-
 standing-keeps : (own : ℕ) (s : State) (h : Input) → Standing own s → Standing own (nextState s h)
 unfolding answerTo
 standing-keeps own s h k =
-    record { office = answer-ends s h .0 .own ∙ k .office; well = take-well s (h .event) (h .room) (k .well) }
+    record {
+      office = answer-ends s h .0 .own ∙ k .office;
+      well = take-well (h .office) s (h .event) (h .room) (k .well);
+    }
 
 module _ (own : ℕ) (lt : own < 16) (hs : List Input) where
   pub fresh-after : Standing own (stateAfter (fresh own) hs)

@@ -317,7 +317,8 @@ answer-stands : (g : Given) (s : State) (h : Input) → Stands g s
     → Beside GivesOut Stands g (answerTo s h .written) (nextState s h)
 unfolding answerTo
 answer-stands g s h f =
-    take-by s (h .event) (h .room) (Beside GivesOut Stands g) (record { then = g; told = gives-none; holds = f })
+    take-by (h .office) s (h .event) (h .room) (Beside GivesOut Stands g)
+    (record { then = g; told = gives-none; holds = f })
     (λ a. event-stands g s (h .event) (a .acts .passes) f)
 
 -- a restart

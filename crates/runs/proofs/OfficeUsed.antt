@@ -101,7 +101,7 @@ module _ (own : ℕ) (lt : own < 16) where
   unfolding answerTo
   answer-own-used s h f =
       let e = h .event in
-      take-by s e (h .room) (λ ws t. OwnUsed own t × EachProposal UsedBelow ws) (f, none) (λ a.
+      take-by (h .office) s e (h .room) (λ ws t. OwnUsed own t × EachProposal UsedBelow ws) (f, none) (λ a.
       let g = arrived-own-used s e (a .acts .passes) f in (
         walk-event own-used s e g,
         each-map (λ p k. rw (k .sender ∙ g .office)
@@ -135,13 +135,13 @@ module _ (own : ℕ) (lt : own < 16) where
       (λ s h i. answer-own-used s h) (λ h. tt) (atFirst states links) es
       (rw begins (restarted-own-used m), none) .1) (sent .1))
 
-  -- so no state of any office answers 19 to it
+  -- so no state of any office answers 19 to it, whatever office it is read for
   pub never-19 : (m : ℕ) (ts : List Turn) (p : Proposal) → List·Memᴰ (proposal p) (leftOver (restarted own m) ts)
-      → (s : State) (room : ℕ) → takeOf s (aProposal p) room .refusal ≡ 19 → ⊥
-  never-19 m ts p i s room e = let a = never-used m ts p i in let b = only-19 s p room e in omega arith
+      → (office : ℕ) (s : State) (room : ℕ) → takeOf office s (aProposal p) room .refusal ≡ 19 → ⊥
+  never-19 m ts p i office s room e = let a = never-used m ts p i in let b = only-19 s p office room e in omega arith
 
   pub never-19-sent : (m : ℕ) (states : ℕ → State) (links : ℕ → ℕ → List Item) → states own ≡ restarted own m
       → (es : List WorldEvent) (p : Proposal) → HasSent (run (atFirst states links) es) own p
-      → (s : State) (room : ℕ) → takeOf s (aProposal p) room .refusal ≡ 19 → ⊥
-  never-19-sent m states links begins es p sent s room e =
-      let a = never-used-sent m states links begins es p sent in let b = only-19 s p room e in omega arith
+      → (office : ℕ) (s : State) (room : ℕ) → takeOf office s (aProposal p) room .refusal ≡ 19 → ⊥
+  never-19-sent m states links begins es p sent office s room e =
+      let a = never-used-sent m states links begins es p sent in let b = only-19 s p office room e in omega arith

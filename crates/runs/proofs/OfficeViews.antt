@@ -177,7 +177,7 @@ pub answer-ends : (s : State) (h : Input) → Renews s (nextState s h)
     × ((v : View) → List·Memᴰ (view v) (answerTo s h .written) → ViewSent s (testedIn s (h .event)) v (nextState s h))
 unfolding answerTo
 answer-ends s h =
-    take-by s (h .event) (h .room) Ends (renews-none s, λ v m. absurd (List·Memᴰ·not-nil m))
+    take-by (h .office) s (h .event) (h .room) Ends (renews-none s, λ v m. absurd (List·Memᴰ·not-nil m))
     (λ a. let x = event-ends s (h .event) (a .acts .passes) in (x .renews, x .shows))
   where
     Ends : List Written → State → Type 0

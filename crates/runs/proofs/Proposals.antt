@@ -299,9 +299,10 @@ pub proposal-net : (s : State) (p : Proposal) → proposalRule s p .state .net .
 proposal-net s p = makes-proposal s p .net ∙ received-reads s p .net-is
 
 -- an answer of any office keeps the own office, and the proposals name it
-pub step-names : (s : State) (e : Event) (room : ℕ)
-    → (takeOf s e room .state .own ≡ s .own) × EachProposal (λ p. p .sender ≡ s .own) (takeOf s e room .written)
-step-names s e room = take-by s e room (λ ws t. (t .own ≡ s .own) × EachProposal (λ p. p .sender ≡ s .own) ws)
-    (refl, none)
+pub step-names : (office : ℕ) (s : State) (e : Event) (room : ℕ)
+    → (takeOf office s e room .state .own ≡ s .own)
+    × EachProposal (λ p. p .sender ≡ s .own) (takeOf office s e room .written)
+step-names office s e room =
+    take-by office s e room (λ ws t. (t .own ≡ s .own) × EachProposal (λ p. p .sender ≡ s .own) ws) (refl, none)
     (λ a. let m = makes-event s e in let own = arrived-own s e in
     (m .own ∙ own, each-map (λ p k. k .sender ∙ own) (m .sends)))

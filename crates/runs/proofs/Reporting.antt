@@ -59,7 +59,7 @@ module _ (F : ℕ → Bool) where
         ans = record { is-good = good; own = sim .own; sends = none; names = none }
 
     -- refused: nothing happens
-    refused-acts : Refused mine (takeOf mine (aReport rep) room) → Barred (takeOf mine (aReport rep) room)
+    refused-acts : Refused mine (takeOf me mine (aReport rep) room) → Barred (takeOf me mine (aReport rep) room)
         → Acted (reportAnswer w me rep room)
     unfolding reportAnswer answered
     refused-acts r b = (g, refuses q b, subst (λ (z : Result). SeenAll F (answered w me z) g) (sym (r .is)) unmoved)
@@ -113,10 +113,10 @@ module _ (F : ℕ → Bool) where
         let e = numbers .own-used me q in
         omega arith
 
-    module _ (accepts : Takes mine (aReport rep) room) where
+    module _ (accepts : Takes me mine (aReport rep) room) where
       answer : reportAnswer w me rep room ≡ accepted (reportRule mine rep)
       unfolding reportAnswer
-      answer = take-accepts mine (aReport rep) room accepts
+      answer = take-accepts me mine (aReport rep) room accepts
 
       passes : wellFormed (reportRule mine rep .state) ≡ true
       passes = accepts .acts .within
@@ -187,22 +187,22 @@ module _ (F : ℕ → Bool) where
           go false c false e = unseated c e
 
     pub report-acts : Acted (reportAnswer w me rep room)
-    report-acts = go (accepted-or-barred mine (aReport rep) room (good .passes) refl)
+    report-acts = go (accepted-or-barred me mine (aReport rep) room (sim .own) (good .passes) refl)
       where
-        go : Takes mine (aReport rep) room
-            ⊎ (Refused mine (takeOf mine (aReport rep) room) × Barred (takeOf mine (aReport rep) room))
+        go : Takes me mine (aReport rep) room
+            ⊎ (Refused mine (takeOf me mine (aReport rep) room) × Barred (takeOf me mine (aReport rep) room))
             → Acted (reportAnswer w me rep room)
         go (inl a) = accepted-acts a
         go (inr r) = refused-acts (r .0) (r .1)
 
     -- the proposals of its answer
     pub report-sends : Sends F me (reportAnswer w me rep room .written)
-    report-sends = go (accepted-or-barred mine (aReport rep) room (good .passes) refl)
+    report-sends = go (accepted-or-barred me mine (aReport rep) room (sim .own) (good .passes) refl)
       where
         nothing : Sends F me []
         nothing = record { valid = none; names = none }
 
-        of : (a : Takes mine (aReport rep) room) (u : Bool) → repeats mine rep ≡ u → (t : Bool) → seated turned ≡ t
+        of : (a : Takes me mine (aReport rep) room) (u : Bool) → repeats mine rep ≡ u → (t : Bool) → seated turned ≡ t
             → Sends F me (reportRule mine rep .written)
         of a true c t e = rw (repeat-rule mine rep c) nothing
         of a false c false e = rw (unseated-report mine rep e) nothing
@@ -217,8 +217,8 @@ module _ (F : ℕ → Bool) where
               names = each-map (λ p m. m .sender ∙ turned-own) (makes .sends);
             }
 
-        go : Takes mine (aReport rep) room
-            ⊎ (Refused mine (takeOf mine (aReport rep) room) × Barred (takeOf mine (aReport rep) room))
+        go : Takes me mine (aReport rep) room
+            ⊎ (Refused mine (takeOf me mine (aReport rep) room) × Barred (takeOf me mine (aReport rep) room))
             → Sends F me (reportAnswer w me rep room .written)
         go (inl a) = rw (answer a) (of a (repeats mine rep) refl (seated turned) refl)
         go (inr r) = unfold reportAnswer in rw (r .0 .is) nothing

@@ -17,13 +17,14 @@ use Rattle.rules.specs.Rules.{received, slowTest}
 use Rattle.rules.specs.Leaving.{ownNumber}
 use Rattle.rules.specs.Refusals.{Event, aReport, aProposal, Result, takeOf}
 
--- what is handed to an office: an event, and an output of length room
+-- what is handed in: the office for which it is read, an event, and an output of length room
 pub record Input : Type 0 where
+  pub office : ℕ
   pub event : Event
   pub room : ℕ
 
 unfoldable pub answerTo : State → Input → Result
-answerTo s h = takeOf s (h .event) (h .room)
+answerTo s h = takeOf (h .office) s (h .event) (h .room)
 
 abbrev pub nextState : State → Input → State
 nextState s h = answerTo s h .state

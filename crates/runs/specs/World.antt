@@ -106,12 +106,12 @@ without n [] = []
 without zero (x ∷ l) = l
 without (suc n) (x ∷ l) = x ∷ without n l
 
--- what office o answers to a report, and to a proposal
+-- what office o answers to a report, and to a proposal: it reads for itself
 unfoldable pub reportAnswer : World → ℕ → Report → ℕ → Result
-reportAnswer w o r room = takeOf (w .state o) (aReport r) room
+reportAnswer w o r room = takeOf o (w .state o) (aReport r) room
 
 unfoldable pub proposalAnswer : World → ℕ → Proposal → ℕ → Result
-proposalAnswer w o p room = takeOf (w .state o) (aProposal p) room
+proposalAnswer w o p room = takeOf o (w .state o) (aProposal p) room
 
 abbrev pub delivered : World → ℕ → ℕ → ℕ → List Item → World
 delivered w i j room [] = idle w

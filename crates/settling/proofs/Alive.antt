@@ -10,7 +10,7 @@ use Rattle.records.specs.declared.View.{View}
 use Rattle.runs.specs.World.{delivery, loss, cut}
 use Rattle.runs.specs.Files.{FileEvent, cuts}
 use Rattle.settling.specs.Statement.{OutAndBack, CutsFirst, Assumed, AllReported, Settled, Settles}
-use Rattle.settling.specs.Scenarios.{Scenario, stateIn, linkIn, changeAt}
+use Rattle.settling.specs.Scenarios.{Posted, Scenario, stateIn, linkIn, changeAt}
 use Rattle.settling.proofs.Settling.{settles-with-files}
 use Rattle.settling.proofs.Scenarios.{meets-all, meets-cuts, reported}
 use Rattle.settling.specs.Scenarios.{Summary, summary, no-view, sent-at, change, join, leave, hand, shortRoom}
@@ -105,28 +105,32 @@ unfolding summary
 lossy-summary = refl
 
 -- 4. Refused on the way. Office 3 is no office of {0, 4} and starts with number 5 and used number 9 for office 0; a
--- proposal of kind 3 is on its link to office 0. Office 0 first proposes {0, 12}: office 3 has room for 181 bytes and
--- answers 3. Office 0 answers 7 to the proposal of kind 3, and 12 to the one that office 3 makes. Then {12} leaves,
--- {4} joins, and offices 0 and 1 agree on view 3.
+-- proposal of kind 3 is on its link to office 0, twice. Office 0 first proposes {0, 12}: office 3 has room for 184
+-- bytes and answers 3. Office 0 answers 7 to the proposal of kind 3, also with room for 184 bytes: it does not pass
+-- its reading, so full room holds of the list. It answers 12 to the one that office 3 makes. Then {12} leaves, {4}
+-- joins, and offices 0 and 1 agree on view 3.
+abbrev of-kind-3 : Posted
+of-kind-3 =
+    record {
+      to = 0;
+      proposal = record {
+        sender = 3;
+        kind = 3;
+        members = record { bits = 4097 };
+        start = 1;
+        number = 1;
+        used = three 0 0 0;
+      };
+    }
+
 abbrev refusals : Scenario
 refusals =
     record {
       set = 17;
       begun = record { office = 3; state = inNone 3 4096 0 5 zeros (three 9 0 0) } ∷ [];
-      posted =
-          record {
-            to = 0;
-            proposal = record {
-              sender = 3;
-              kind = 3;
-              members = record { bits = 4097 };
-              start = 1;
-              number = 1;
-              used = three 0 0 0;
-            };
-          } ∷ [];
+      posted = of-kind-3 ∷ of-kind-3 ∷ [];
       events =
-          join 0 4097 ∷ delivery 0 3 shortRoom ∷ hand 3 0 ∷ join 3 1 ∷ hand 3 0
+          join 0 4097 ∷ delivery 0 3 shortRoom ∷ hand 3 0 ∷ delivery 3 0 shortRoom ∷ join 3 1 ∷ hand 3 0
           ∷ change 0 16 4096 ∷ join 1 17
           ∷ hand 1 0 ∷ hand 0 1 ∷ [];
     }
@@ -135,14 +139,14 @@ refusals-summary :
     summary refusals
     ≡ record {
       fails = [];
-      point = 7;
+      point = 8;
       on-way = 2;
       offices = 2;
       bound = 10;
       delivered = 2;
-      answers = 0 ∷ 3 ∷ 7 ∷ 0 ∷ 12 ∷ 0 ∷ 0 ∷ 0 ∷ 0 ∷ [];
+      answers = 0 ∷ 3 ∷ 7 ∷ 7 ∷ 0 ∷ 12 ∷ 0 ∷ 0 ∷ 0 ∷ 0 ∷ [];
       left = 0;
-      views = sent-at 7 3 17 (three 2 1 0) ∷ sent-at 8 3 17 (three 2 1 0) ∷ no-view ∷ [];
+      views = sent-at 8 3 17 (three 2 1 0) ∷ sent-at 9 3 17 (three 2 1 0) ∷ no-view ∷ [];
     }
 unfolding summary
 refusals-summary = refl

@@ -94,7 +94,7 @@ net-differs-summary :
 unfolding summary
 net-differs-summary = refl
 
--- full-room: office 1 has room for 181 bytes when office 0's proposal comes, and answers 3.
+-- full-room: office 1 has room for 184 bytes when office 0's proposal comes, and answers 3.
 abbrev no-room : Scenario
 no-room = record {
   set = 17;

@@ -1,6 +1,6 @@
 -- For the crates above: what a table holds after the step, and what the output holds.
 use mathlib.Core.Path.{_≡_, refl, sym, ap, _∙_}
-use mathlib.Core.Bool.{true, false}
+use mathlib.Core.Bool.{Bool, true, false}
 use mathlib.Core.Logic.{_⊎_, inl, inr}
 use mathlib.Core.List.{List, []}
 use Prim.Native.Nat.{ℕ, _+_, _≤_, _<_}
@@ -8,18 +8,17 @@ use native.Mathlib.Omega.{arith}
 use lib.Dec.{eqb}
 use borrow.Author.Tests.{ne-eqb}
 use lib.ListN.{length, take, drop, getD, length-take, List·getD-eq-default}
-use native.Mathlib.Decide.{decLt}
+use native.Mathlib.Decide.{ℕ-discrete, decLt}
 use Rattle.laws.proofs.Big.{sets-front, sets-rest}
-use Rattle.laws.proofs.Fin.{if-cases}
 use Rattle.laws.specs.Upd.{ifb, upd}
 use Rattle.laws.proofs.Upd.{upd-same}
 use Rattle.records.specs.Numbers.{roomCount}
 use Rattle.records.specs.Layout.{roomOf}
 use Rattle.records.specs.declared.Report.{Report}
 use Rattle.rules.specs.State.{State}
-use Rattle.rules.specs.Rules.{repeats}
 use Rattle.rules.specs.Refusals.{aReport, eventOf, ruleOf, fullRoom, readCheck, Result, stepOf, allBytes, size}
-use Rattle.rules.specs.Tables.{stepTable}
+use Rattle.rules.specs.Rules.{Written, repeats}
+use Rattle.rules.specs.Tables.{RoomEvent, readOf, stepTable}
 use Rattle.rule_laws.proofs.Steps.{Refused, Accepts, read-facts, step-cases, step-accepts}
 use Rattle.rule_laws.proofs.Shapes.{Shaped, event-shaped, read-sixteen}
 use Rattle.rule_laws.proofs.Repeats.{repeat-step}
@@ -34,30 +33,30 @@ use Rattle.row.proofs.Words.{words-state, words-row, state-shaped}
 use Rattle.row.proofs.Tables.{sound-is, sound-length, sound-rows, sound-table, row-self, row-beside}
 use Rattle.row.proofs.Tables.{row-written}
 use Rattle.laws.proofs.Cuts.{getD-part}
-use Rattle.step.specs.Step.{WordsResult, inRow, inWords, stepWords, Stepped}
+use Rattle.step.specs.Step.{WordsResult, inRow, inWords, actWords, stepWords, Stepped}
+use Rattle.step.proofs.HeldLaws.{on-table}
 
 -- words that are no table stay
-pub no-table-stays : (ws b : List ℕ) (output : ℕ) → isTable ws ≡ false
-    → stepWords ws b output ≡ record { refusal = 2; written = []; words = ws }
-unfolding stepWords
-no-table-stays ws b output e = rw e
+pub no-table-stays : (ws : List ℕ) (e : RoomEvent) (output : ℕ) → isTable ws ≡ false
+    → actWords ws e output ≡ record { refusal = 2; written = []; words = ws }
+unfolding actWords
+no-table-stays ws e output n = rw n
 
 -- the words that the step leaves: the row of the record's room anew, or all as they were
-module _ (ws b : List ℕ) (output : ℕ) (sound : SoundTable ws) where
+module _ (office : ℕ) (ws b : List ℕ) (output : ℕ) (sound : SoundTable ws) where
   abbrev room : ℕ
   room = roomOf b
 
   abbrev q : WordsResult
-  q = stepWords ws b output
+  q = stepWords office ws b output
 
-  on-table : q ≡ inWords ws room (stepTable (tableOf ws) b output)
-  unfolding stepWords
-  on-table = rw (sound-is ws sound)
+  as-table : q ≡ inWords ws room (stepTable office (tableOf ws) b output)
+  as-table = on-table office ws b output (sound-is ws sound)
 
   -- the other rooms stay word for word
   pub rows-stay : (other : ℕ) → (other ≡ room → ⊥) → rowAt (q .words) other ≡ rowAt ws other
-  rows-stay other n = rw on-table
-      (table-by (tableOf ws) b output (λ x. rowAt (inWords ws room x .words) other ≡ rowAt ws other)
+  rows-stay other n = rw as-table
+      (table-by office (tableOf ws) b output (λ x. rowAt (inWords ws room x .words) other ≡ rowAt ws other)
       (λ m d. rw (ne-eqb m 0 d))
       (λ a. let s = ruleOf (tableOf ws room) (eventOf b) .state in
       rw (upd-same (tableOf ws) room s)
@@ -68,49 +67,49 @@ module _ (ws b : List ℕ) (output : ℕ) (sound : SoundTable ws) where
       shaped s e = rw e (event-shaped (tableOf ws room) (eventOf b) (read-sixteen b) (state-shaped (rowAt ws room)))
 
   -- and its own room is what the step in one room leaves
-  pub row-step : room < roomCount → (q .refusal ≡ stepOf (tableOf ws room) b output .refusal)
-      × (q .written ≡ stepOf (tableOf ws room) b output .written)
-      × (rowAt (q .words) room ≡ inRow (rowAt ws room) (stepOf (tableOf ws room) b output) .words)
-  row-step l = rw (on-table, step-in-room (tableOf ws) b output (sound-table ws sound) l)
-      (refl, refl, go (step-cases (tableOf ws room) b output))
+  pub row-step : room < roomCount → (q .refusal ≡ stepOf office (tableOf ws room) b output .refusal)
+      × (q .written ≡ stepOf office (tableOf ws room) b output .written)
+      × (rowAt (q .words) room ≡ inRow (rowAt ws room) (stepOf office (tableOf ws room) b output) .words)
+  row-step l = rw (as-table, step-in-room office (tableOf ws) b output (sound-table ws sound) l)
+      (refl, refl, go (step-cases office (tableOf ws room) b output))
     where
       x : Result
-      x = stepOf (tableOf ws room) b output
+      x = stepOf office (tableOf ws room) b output
 
       Row : Result → Type 0
       Row x = rowAt (ifb (eqb (x .refusal) 0) (withRow ws room (wordsOf (upd (tableOf ws) room (x .state) room))) ws) room
           ≡ ifb (eqb (x .refusal) 0) (wordsOf (x .state)) (rowAt ws room)
 
-      go : Refused (tableOf ws room) x ⊎ Accepts (tableOf ws room) b output → Row x
+      go : Refused (tableOf ws room) x ⊎ Accepts office (tableOf ws room) b output → Row x
       go (inl r) = rw (ne-eqb (x .refusal) 0 (r .reason))
       go (inr a) =
           let s = ruleOf (tableOf ws room) (eventOf b) .state in
           let shaped = event-shaped (tableOf ws room) (eventOf b) (read-sixteen b) (state-shaped (rowAt ws room)) in
-          rw (step-accepts (tableOf ws room) b output a, upd-same (tableOf ws) room s)
+          rw (step-accepts office (tableOf ws room) b output a, upd-same (tableOf ws) room s)
           (row-written ws (wordsOf s) room (sound-length ws sound) l (words-row s shaped .long))
 
 -- two tables of words that pass check 2 and have one row in common answer that room's records alike, whatever stands
 -- in the other rows, and leave that row alike
-pub alike : (ws vs b : List ℕ) (output : ℕ) → SoundTable ws → SoundTable vs → roomOf b < roomCount
+pub alike : (office : ℕ) (ws vs b : List ℕ) (output : ℕ) → SoundTable ws → SoundTable vs → roomOf b < roomCount
     → rowAt ws (roomOf b) ≡ rowAt vs (roomOf b)
-    → (stepWords ws b output .refusal ≡ stepWords vs b output .refusal)
-    × (stepWords ws b output .written ≡ stepWords vs b output .written)
-    × (rowAt (stepWords ws b output .words) (roomOf b) ≡ rowAt (stepWords vs b output .words) (roomOf b))
-alike ws vs b output s t l e =
-    let a = row-step ws b output s l in
-    let c = row-step vs b output t l in
-    let same = ap (λ (r : List ℕ). stepOf (stateOf r) b output) e in (
+    → (stepWords office ws b output .refusal ≡ stepWords office vs b output .refusal)
+    × (stepWords office ws b output .written ≡ stepWords office vs b output .written)
+    × (rowAt (stepWords office ws b output .words) (roomOf b) ≡ rowAt (stepWords office vs b output .words) (roomOf b))
+alike office ws vs b output s t l e =
+    let a = row-step office ws b output s l in
+    let c = row-step office vs b output t l in
+    let same = ap (λ (r : List ℕ). stepOf office (stateOf r) b output) e in (
       a .0 ∙ ap (λ (x : Result). x .refusal) same ∙ sym (c .0),
       a .1 ∙ ap (λ (x : Result). x .written) same ∙ sym (c .1),
-      a .2 ∙ ap (λ (r : List ℕ). inRow r (stepOf (stateOf r) b output) .words) e ∙ sym (c .2),
+      a .2 ∙ ap (λ (r : List ℕ). inRow r (stepOf office (stateOf r) b output) .words) e ∙ sym (c .2),
     )
 
 -- a repeat leaves every word and writes nothing
-pub repeat-stays : (ws b : List ℕ) (output : ℕ) (r : Report) → SoundTable ws → ((k : ℕ) → getD ws k 0 < word)
-    → fullRoom ≤ output → readCheck b ≡ 0 → eventOf b ≡ aReport r → repeats (tableOf ws (roomOf b)) r ≡ true
-    → stepWords ws b output ≡ record { refusal = 0; written = []; words = ws }
-unfolding stepWords
-repeat-stays ws b output r sound below fits read is e =
+pub repeat-stays : (office : ℕ) (ws b : List ℕ) (output : ℕ) (r : Report) → SoundTable ws
+    → ((k : ℕ) → getD ws k 0 < word) → office < 16 → readCheck b ≡ 0 → fullRoom ≤ output → eventOf b ≡ aReport r
+    → repeats (tableOf ws (roomOf b)) r ≡ true
+    → stepWords office ws b output ≡ record { refusal = 0; written = []; words = ws }
+repeat-stays office ws b output r sound below known read fits is e =
     let room = roomOf b in
     let l = read-facts b .0 read .1 in
     let long = sound-length ws sound in
@@ -118,9 +117,9 @@ repeat-stays ws b output r sound below fits read is e =
     let well = room-well (tableOf ws) (sound-table ws sound) room l in
     let words : wordsOf (stateOf (rowAt ws room)) ≡ rowAt ws room = words-state (rowAt ws room) row (below-row room) in
     rw (
-      sound-is ws sound,
-      step-in-room (tableOf ws) b output (sound-table ws sound) l,
-      repeat-step (tableOf ws room) r well e b output fits read is,
+      on-table office ws b output (sound-is ws sound),
+      step-in-room office (tableOf ws) b output (sound-table ws sound) l,
+      repeat-step (tableOf ws room) r well e office b output known read fits is,
       upd-same (tableOf ws) room (tableOf ws room),
       words,
       row-self ws room long l,
@@ -141,27 +140,36 @@ pub record InFront (bytes o o′ : List ℕ) : Type 0 where
   pub written : take (length bytes) o′ ≡ bytes
   pub untouched : drop (length bytes) o′ ≡ drop (length bytes) o
 
--- what is written has room
-words-enough : (ws b : List ℕ) (output : ℕ) → size (stepWords ws b output .written) ≤ output
-unfolding stepWords allBytes
-words-enough ws b output =
-    if-cases (λ (q : WordsResult). size (q .written) ≤ output) (isTable ws) _ _
-    (λ e. table-by (tableOf ws) b output (λ q. size (q .written) ≤ output) (λ n d. omega arith)
+-- what is written is nothing, or what the table writes
+words-by : (office : ℕ) (ws b : List ℕ) (output : ℕ) (P : List Written → Type 0) → P []
+    → P (stepTable office (tableOf ws) b output .written) → P (stepWords office ws b output .written)
+words-by office ws b output P z h = go (isTable ws) refl (ℕ-discrete (readOf office b .refusal) 0)
+  where
+    go : (u : Bool) → isTable ws ≡ u → Dec (readOf office b .refusal ≡ 0) → P (stepWords office ws b output .written)
+    go true u d = rw (on-table office ws b output u) h
+    go false u (no n) = unfold stepWords in rw (ne-eqb (readOf office b .refusal) 0 n) z
+    go false u (yes r) = unfold stepWords actWords in rw (r, u) z
+
+-- it has room
+words-enough : (office : ℕ) (ws b : List ℕ) (output : ℕ) → size (stepWords office ws b output .written) ≤ output
+unfolding allBytes
+words-enough office ws b output =
+    words-by office ws b output (λ l. size l ≤ output) (omega arith)
+    (table-by office (tableOf ws) b output (λ q. size (q .written) ≤ output) (λ n d. omega arith)
     (λ a. let l = event-size (tableOf ws (roomOf b)) (eventOf b) in omega (arith, a .accepts .fits)))
-    (λ e. omega arith)
 
 -- and is never more than every event has room in
-pub words-size : (ws b : List ℕ) (output : ℕ) → size (stepWords ws b output .written) ≤ fullRoom
-unfolding stepWords
-words-size ws b output = if-cases (λ (q : WordsResult). size (q .written) ≤ fullRoom) (isTable ws) _ _
-    (λ e. table-size (tableOf ws) b output) (λ e. rw (no-bytes 0) (omega arith))
+pub words-size : (office : ℕ) (ws b : List ℕ) (output : ℕ) → size (stepWords office ws b output .written) ≤ fullRoom
+words-size office ws b output =
+    words-by office ws b output (λ l. size l ≤ fullRoom) (rw (no-bytes 0) (omega arith))
+    (table-size office (tableOf ws) b output)
 
-pub stepped-front : (ws b o o′ ws′ : List ℕ) (n w : ℕ)
-    → Stepped (roomOf b) (stepWords ws b (length o)) o n w ws′ o′
-    → InFront (allBytes (roomOf b) (stepWords ws b (length o) .written)) o o′
-stepped-front ws b o o′ ws′ n w h =
-    let bytes = allBytes (roomOf b) (stepWords ws b (length o) .written) in
-    let s = size-bytes (roomOf b) (stepWords ws b (length o) .written) in
-    let e = words-enough ws b (length o) in
+pub stepped-front : (office : ℕ) (ws b o o′ ws′ : List ℕ) (n w : ℕ)
+    → Stepped (roomOf b) (stepWords office ws b (length o)) o n w ws′ o′
+    → InFront (allBytes (roomOf b) (stepWords office ws b (length o) .written)) o o′
+stepped-front office ws b o o′ ws′ n w h =
+    let bytes = allBytes (roomOf b) (stepWords office ws b (length o) .written) in
+    let s = size-bytes (roomOf b) (stepWords office ws b (length o) .written) in
+    let e = words-enough office ws b (length o) in
     let l : length bytes ≤ length o = omega arith in
     record { written = rw (h .same-out) (sets-front o bytes l); untouched = rw (h .same-out) (sets-rest o bytes l) }

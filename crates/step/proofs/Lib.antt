@@ -1,5 +1,5 @@
--- The laws, in the order of the modules that they serve: checks, making, refusals, acting and dispatch, the step, the crates
--- above, held.
+-- The laws, in the order of the modules that they serve: checks, making, refusals, acting and dispatch, the acting
+-- call and the step, held, the crates above.
 mod Readiness
 pub mod FreshTables
 mod Within
@@ -7,5 +7,5 @@ mod Lowness
 mod Refusal
 pub mod Exits
 mod Unready
-pub mod Holds
 pub mod HeldLaws
+pub mod Holds

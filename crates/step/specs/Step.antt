@@ -1,16 +1,15 @@
--- The step on words: what comes of any words, any bytes and any output.
+-- The acting call and the step on words: what comes of any words, any event or bytes and any output.
 use mathlib.Core.Path.{_≡_}
 use mathlib.Core.Bool.{true, _&&_, not}
 use mathlib.Core.List.{List, []}
-use Prim.Native.Nat.{ℕ, _≤_}
+use Prim.Native.Nat.{ℕ, _≤_, _<_}
 use lib.Dec.{eqb}
 use lib.Seq.{sets}
 use Rattle.laws.specs.Upd.{ifb}
-use Rattle.records.specs.Numbers.{roomAbove}
-use Rattle.records.specs.Layout.{roomOf}
+use Rattle.records.specs.Numbers.{roomCount, roomAbove}
 use Rattle.rules.specs.Rules.{Written}
-use Rattle.rules.specs.Refusals.{fullRoom, Event, Result, actOf, allBytes, size}
-use Rattle.rules.specs.Tables.{TableResult, stepTable}
+use Rattle.rules.specs.Refusals.{fullRoom, Event, formRefusal, Result, actOf, allBytes, size}
+use Rattle.rules.specs.Tables.{RoomEvent, TableResult, actTable, readOf}
 use Rattle.row.specs.Row.{stateOf, wordsOf, soundRow}
 use Rattle.row.specs.Table.{withRow, tableOf, isTable, soundTable, SoundTable}
 
@@ -40,10 +39,19 @@ inWords ws room q = record {
   words = ifb (eqb (q .refusal) 0) (withRow ws room (wordsOf (q .table room))) ws;
 }
 
--- words that are no table get 2, as a table that fails check 2 does
-unfoldable pub stepWords : List ℕ → List ℕ → ℕ → WordsResult
-stepWords ws b output = ifb (isTable ws) (inWords ws (roomOf b) (stepTable (tableOf ws) b output))
-    (record { refusal = 2; written = []; words = ws })
+-- nothing done
+abbrev pub kept : ℕ → List ℕ → WordsResult
+kept n ws = record { refusal = n; written = []; words = ws }
+
+-- the acting call; words that are no table get 2, as a table that fails check 2 does
+unfoldable pub actWords : List ℕ → RoomEvent → ℕ → WordsResult
+actWords ws e output = ifb (isTable ws) (inWords ws (e .room) (actTable (tableOf ws) e output)) (kept 2 ws)
+
+-- the step: a record is read for an office, then its event acted on
+unfoldable pub stepWords : ℕ → List ℕ → List ℕ → ℕ → WordsResult
+stepWords office ws b output =
+    let r = readOf office b in
+    ifb (eqb (r .refusal) 0) (actWords ws (r .event) output) (kept (r .refusal) ws)
 
 -- the number of the current view of a room; words that fail check 2, and a room above 7, have none
 unfoldable pub viewNumberWords : List ℕ → ℕ → ℕ
@@ -65,3 +73,9 @@ pub record Ready (ws : List ℕ) (output : ℕ) : Type 0 where
 pub record ReadyTable (ws : List ℕ) (output : ℕ) : Type 0 where
   pub sound : SoundTable ws
   pub fits : fullRoom ≤ output
+
+-- and of the event, once 20 and 6 to 10 and 19 are passed too
+pub record ReadyEvent (ws : List ℕ) (e : RoomEvent) (output : ℕ) : Type 0 where
+  pub ready : ReadyTable ws output
+  pub in-room : e .room < roomCount
+  pub form : formRefusal (tableOf ws (e .room) .own) (e .what) ≡ 0

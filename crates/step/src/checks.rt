@@ -1,24 +1,16 @@
-// Checks 1 to 3 and 11 to 13, and the order of 6 to 10, 19, 11 and 12. The records answer 4, 5 and 20.
-use crate::form::form_refusal;
+// Checks 2, 3 and 11 to 13. The reading call answers the others.
 use records::Proposal;
 use records::layout;
 use records::numbers::LIMIT;
 ghost use mathlib.Core.Path.{_≡_};
 ghost use Prim.Native.Nat.{_<_};
 ghost use Rattle.laws.specs.Checks.{firstOf};
-ghost use Rattle.rules.specs.Refusals.{madeOf, notAbove, usedAhead, proposalChecks};
+ghost use Rattle.rules.specs.Refusals.{notAbove, usedAhead, stateChecks};
 ghost use Rattle.row.specs.Row.{Row, stateOf};
 ghost use Rattle.step.specs.Checks.{unready, madeWithin};
 
 // The output room that every event has enough of: a start notice and two proposals.
 pub const ROOM: usize = layout::NOTICE_LENGTH + 2 * layout::PROPOSAL_LENGTH;
-
-// Check 1.
-pub fn office_refusal(office: u8) -> u8
-    ensures { λ r. ⌜ r ≡ madeOf office .refusal ⌝ }
-{
-    if office <= 15 { 0 } else { 1 }
-}
 
 // Checks 2, of every room, and 3.
 pub fn unready(table: &[u32], output: usize) -> u8
@@ -50,16 +42,12 @@ fn used_ahead(state: &[u32], p: Proposal, used: &[u32; 16]) -> bool
     row::number(state) < used[own]
 }
 
-// Checks 6 to 10, 19, 11 and 12: the first that applies, 0 where none does.
-pub fn proposal_refusal(state: &[u32], p: Proposal) -> u8
-    requires { ⌜ Row (now state) × (stateOf (now state) .own < 16) ⌝ }
-    ensures { λ r. ⌜ r ≡ firstOf (proposalChecks (stateOf (now (state .entry))) p) ⌝ }
+// Checks 11 and 12: the first that applies, 0 where none does.
+pub fn state_refusal(state: &[u32], p: Proposal) -> u8
+    requires { ⌜ Row (now state) × (stateOf (now state) .own < 16) × (p .sender < 16) ⌝ }
+    ensures { λ r. ⌜ r ≡ firstOf (stateChecks (stateOf (now (state .entry))) p) ⌝ }
 {
     let used = p.used;
-    let refusal = form_refusal(row::own(state), p, &used);
-    if refusal != 0 {
-        return refusal;
-    }
     if not_above(state, p) {
         return 11;
     }

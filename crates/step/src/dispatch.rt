@@ -1,21 +1,15 @@
-// A record through the step once checks 2 and 3 are passed: its kind picks the rule, its room the row. Inner to the layer
-// of the step.
-use crate::acting::act_proposal;
-use crate::acting::act_report;
+// An event in the table once every check but 11, 12 and 13 is passed: its room picks the row. Inner to the layer of
+// the step.
+use crate::acting::act_event;
 use crate::answers::Answer;
-use crate::answers::refuse;
-use record_bytes::proposals::decode_proposal;
-use record_bytes::reports::decode_report;
-use records::RecordKind;
-use records::check_for;
-use records::form_of;
-use records::numbers::room_above;
-use records::room_of;
+use events::Event;
 ghost use mathlib.Core.Path.{_≡_};
+ghost use Prim.Native.Nat.{_<_};
 ghost use lib.ListN.{length};
-ghost use Rattle.records.specs.Layout.{reportMark, reportLength, proposalMark, proposalLength, roomOf, checkOwn};
-ghost use Rattle.row.specs.Table.{rowPlace};
-ghost use Rattle.step.specs.Step.{ReadyTable, Stepped, stepWords};
+ghost use Rattle.records.specs.Numbers.{roomCount};
+ghost use Rattle.events.specs.Events.{eventHeld};
+ghost use Rattle.row.specs.Table.{rowPlace, tableOf, SoundTable};
+ghost use Rattle.step.specs.Step.{ReadyEvent, Stepped, actWords};
 
 // Where the row of a room begins.
 fn row_place(room: u8) -> usize
@@ -24,56 +18,22 @@ fn row_place(room: u8) -> usize
     row::WORDS * room as usize
 }
 
-// A report: check 20, then what it does in the row of its room, a part of the table itself.
-fn on_report(table: &mut [u32], record: &[u8], out: &mut [u8]) -> Answer
-    requires { ⌜ ReadyTable (now table) (length (now out)) × (checkOwn reportMark reportLength (now «record») ≡ 0) ⌝ }
-    ensures { λ r. ⌜ Stepped (roomOf (now («record» .entry)))
-        (stepWords (now (table .entry)) (now («record» .entry)) (length (now (out .entry)))) (now (out .entry))
+// An event behind checks 2, 3, 20 and those of its form: 11, 12, 13, then what it does in the row of its room, a part
+// of the table itself.
+pub fn act_read(table: &mut [u32], event: Event, out: &mut [u8]) -> Answer
+    requires { ⌜ ReadyEvent (now table) (eventHeld event) (length (now out)) ⌝ }
+    ensures { λ r. ⌜ Stepped (event .room)
+        (actWords (now (table .entry)) (eventHeld event) (length (now (out .entry)))) (now (out .entry))
         (r .refusal) (r .written) (now (table .exit)) (now (out .exit)) ⌝ }
 {
-    let room = room_of(record);
-    if room_above(room) {
-        return refuse(20);
-    }
-    let at = row_place(room);
-    let report = decode_report(record);
-    act_report(&mut table[at..at + row::WORDS], report, room, out)
+    let at = row_place(event.room);
+    act_event(&mut table[at..at + row::WORDS], event, out)
 }
 
-// A proposal, likewise.
-fn on_proposal(table: &mut [u32], record: &[u8], out: &mut [u8]) -> Answer
-    requires { ⌜ ReadyTable (now table) (length (now out))
-        × (checkOwn proposalMark proposalLength (now «record») ≡ 0) ⌝ }
-    ensures { λ r. ⌜ Stepped (roomOf (now («record» .entry)))
-        (stepWords (now (table .entry)) (now («record» .entry)) (length (now (out .entry)))) (now (out .entry))
-        (r .refusal) (r .written) (now (table .exit)) (now (out .exit)) ⌝ }
+// The own office of a room.
+pub fn own_of(table: &[u32], room: u8) -> u8
+    requires { ⌜ SoundTable (now table) × (room < roomCount) ⌝ }
+    ensures { λ r. ⌜ r ≡ tableOf (now (table .entry)) room .own ⌝ }
 {
-    let room = room_of(record);
-    if room_above(room) {
-        return refuse(20);
-    }
-    let at = row_place(room);
-    let proposal = decode_proposal(record);
-    act_proposal(&mut table[at..at + row::WORDS], proposal, room, out)
-}
-
-// A record, once checks 2 and 3 are passed: one look at its mark says its kind and, with its length, its number by
-// checks 4 and 5. No other kind passes 4.
-pub fn on_record(table: &mut [u32], record: &[u8], out: &mut [u8]) -> Answer
-    requires { ⌜ ReadyTable (now table) (length (now out)) ⌝ }
-    ensures { λ r. ⌜ Stepped (roomOf (now («record» .entry)))
-        (stepWords (now (table .entry)) (now («record» .entry)) (length (now (out .entry)))) (now (out .entry))
-        (r .refusal) (r .written) (now (table .exit)) (now (out .exit)) ⌝ }
-{
-    let form = form_of(record);
-    let kind = form.kind;
-    let refusal = check_for(form.length, record);
-    if refusal != 0 {
-        return refuse(refusal);
-    }
-    match kind {
-        RecordKind::Report => on_report(table, record, out),
-        RecordKind::Proposal => on_proposal(table, record, out),
-        RecordKind::Other => refuse(4),
-    }
+    row::own(row::table::row_of(table, room))
 }

@@ -1,33 +1,37 @@
-// The step: what comes of any bytes on any table of words, in place. step, fresh, current_view_number and Answer are
-// open; held asks that its caller knows of the table what check 2 asks, as the program does.
+// The acting call, on any event and any table of words, in place; and the step, which is the reading call and the
+// acting call in turn, on any bytes. act, step, fresh, current_view_number and Answer are open; held asks that its
+// caller knows of the table what check 2 asks and that its rooms are of the office, as the program does.
 use answers::refuse;
 use checks::unready;
-use dispatch::on_record;
+use dispatch::act_read;
+use dispatch::own_of;
+use events::Event;
+use events::event_refusal;
+use events::read_event;
 use records::numbers::room_above;
 ghost use mathlib.Core.Path.{_≡_};
 ghost use lib.ListN.{length};
 ghost use Rattle.records.specs.Layout.{roomOf};
-ghost use Rattle.step.specs.Step.{Stepped, stepWords, viewNumberWords};
+ghost use Rattle.events.specs.Events.{eventHeld};
+ghost use Rattle.step.specs.Checks.{unfit};
+ghost use Rattle.step.specs.Step.{Stepped, actWords, stepWords, viewNumberWords};
 
 // What the step answers.
 pub mod answers;
 
-// Checks 6 to 10 and 19.
-mod form;
-
-// Checks 1 to 3, 20 and 11 to 13.
+// Checks 2, 3 and 11 to 13.
 mod checks;
 
 // The fresh table of an office.
 mod making;
 
-// The refusal of a record that was read, with check 13.
+// The refusal of an event in the row of its room, with check 13.
 mod refusals;
 
-// An event in the row of its room.
+// An event in the row of its room: what it is picks the rule.
 mod acting;
 
-// A record through the step, by its room and its kind.
+// An event in the table: its room picks the row.
 mod dispatch;
 
 // The step on a table that the caller keeps.
@@ -38,18 +42,47 @@ pub use checks::ROOM;
 pub use making::fresh;
 pub use row::table::WORDS;
 
-// A refusal leaves every word and byte as it was; acceptance leaves the words of the state that the rules leave in the
-// row of the record's room, and every other word as it was.
-pub fn step(table: &mut [u32], record: &[u8], out: &mut [u8]) -> Answer
-    ensures { λ r. ⌜ Stepped (roomOf (now («record» .entry)))
-        (stepWords (now (table .entry)) (now («record» .entry)) (length (now (out .entry)))) (now (out .entry))
+// The checks of an event on a table: 2, 3, 20, then 6 to 10 and 19 for the own office of its room.
+fn act_refusal(table: &[u32], event: Event, output: usize) -> u8
+    ensures { λ r. ⌜ r ≡ unfit (now (table .entry)) (eventHeld event) output ⌝ }
+{
+    let refusal = unready(table, output);
+    if refusal != 0 {
+        return refusal;
+    }
+    let room = event.room;
+    if room_above(room) {
+        return 20;
+    }
+    event_refusal(own_of(table, room), event)
+}
+
+// The acting call. A refusal leaves every word and byte as it was; acceptance leaves the words of the state that the
+// rules leave in the row of the event's room, and every other word as it was.
+pub fn act(table: &mut [u32], event: Event, out: &mut [u8]) -> Answer
+    ensures { λ r. ⌜ Stepped (event .room)
+        (actWords (now (table .entry)) (eventHeld event) (length (now (out .entry)))) (now (out .entry))
         (r .refusal) (r .written) (now (table .exit)) (now (out .exit)) ⌝ }
 {
-    let refusal = unready(table, out.len());
+    let reason = act_refusal(table, event, out.len());
+    if reason != 0 {
+        return refuse(reason);
+    }
+    act_read(table, event, out)
+}
+
+// The reading call and the acting call in turn.
+pub fn step(office: u8, table: &mut [u32], record: &[u8], out: &mut [u8]) -> Answer
+    ensures { λ r. ⌜ Stepped (roomOf (now («record» .entry)))
+        (stepWords office (now (table .entry)) (now («record» .entry)) (length (now (out .entry)))) (now (out .entry))
+        (r .refusal) (r .written) (now (table .exit)) (now (out .exit)) ⌝ }
+{
+    let read = read_event(office, record);
+    let refusal = read.refusal;
     if refusal != 0 {
         return refuse(refusal);
     }
-    on_record(table, record, out)
+    act(table, read.event, out)
 }
 
 // The number of the current view of a room, 0 where check 2 fails or the room is above 7; the words are only read.

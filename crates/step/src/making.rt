@@ -1,5 +1,5 @@
 // Making a table: the fresh states of an office, one for each room, over any words of a table's length.
-use crate::checks::office_refusal;
+use events::office_refusal;
 use row::table::WORDS;
 ghost use mathlib.Core.Path.{_≡_};
 ghost use Rattle.step.specs.Fresh.{freshWords};

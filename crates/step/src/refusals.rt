@@ -1,9 +1,8 @@
-// Checks 6 to 13 and 19 on a record that was read, in the row of its room. For 13, where a number that the event builds
-// on is so near to L that it could make one above, the event is tried on a copy of the row; which room it is does not
-// count there.
+// Checks 11 to 13 on an event, in the row of its room. For 13, where a number that the event builds on is so near to L
+// that it could make one above, the event is tried on a copy of the row; which room it is does not count there.
 use crate::checks::ROOM;
 use crate::checks::made_within;
-use crate::checks::proposal_refusal;
+use crate::checks::state_refusal;
 use records::Proposal;
 use records::Report;
 use row::LOW;
@@ -12,7 +11,7 @@ ghost use mathlib.Core.Path.{_≡_};
 ghost use mathlib.Core.Bool.{true};
 ghost use Rattle.rules.specs.Rules.{reportRule, proposalRule};
 ghost use Rattle.laws.specs.Checks.{firstOf};
-ghost use Rattle.rules.specs.Refusals.{wellFormed, proposalChecks, aReport, aProposal, actOf};
+ghost use Rattle.rules.specs.Refusals.{wellFormed, formChecks, proposalChecks, aReport, aProposal, actOf};
 ghost use Rattle.row.specs.Row.{stateOf, soundRow};
 
 // Check 13 on a report: it makes no number above L. A repeat makes none.
@@ -60,12 +59,12 @@ pub fn report(state: &[u32], r: Report) -> u8
     if report_within(state, r) { 0 } else { 13 }
 }
 
-// The same of a proposal.
+// The same of a proposal that passes 6 to 10 and 19.
 pub fn proposal(state: &[u32], p: Proposal) -> u8
-    requires { ⌜ soundRow (now state) ≡ true ⌝ }
+    requires { ⌜ (soundRow (now state) ≡ true) × (firstOf (formChecks (stateOf (now state) .own) p) ≡ 0) ⌝ }
     ensures { λ n. ⌜ n ≡ actOf (stateOf (now (state .entry))) (aProposal p) .refusal ⌝ }
 {
-    let refusal = proposal_refusal(state, p);
+    let refusal = state_refusal(state, p);
     if refusal != 0 {
         return refusal;
     }

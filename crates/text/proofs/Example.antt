@@ -7,7 +7,7 @@ use Rattle.laws.specs.Tab.{tab}
 use Rattle.records.specs.Layout.{reportMark, encodeReport, encodeProposal}
 use Rattle.records.specs.Run.{runCheck, runSize, runFirst, runRest}
 use Rattle.rules.specs.Refusals.{madeOf}
-use Rattle.rules.specs.Tables.{wellTable, madeTable, stepTable}
+use Rattle.rules.specs.Tables.{wellTable, madeTable, barred, actTable, readOf, stepTable}
 use Rattle.rules.specs.Days.{given}
 use Rattle.text.specs.Digits.{decimalIn, decimal}
 use Rattle.text.specs.Text.{traceOf, lineOf}
@@ -31,8 +31,8 @@ P room = encodeProposal room
 
 -- the text for office 0 and records; to unfold it is to unfold the rules
 unfoldable textFor : List ℕ → List ℕ
-unfolding given madeOf wellTable madeTable stepTable runCheck runSize runFirst runRest decimalIn decimal traceOf lineOf
-    frontOf behindOf goesOn roomless viewFor lineFor linesIn linesOf noOffice textOf
+unfolding given madeOf wellTable madeTable barred actTable readOf stepTable runCheck runSize runFirst runRest decimalIn
+    decimal traceOf lineOf frontOf behindOf goesOn roomless viewFor lineFor linesIn linesOf noOffice textOf
 textFor b = textOf false (0 ∷ b)
 
 pub computed : List ℕ

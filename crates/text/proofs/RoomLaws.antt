@@ -19,7 +19,7 @@ use Rattle.rules.specs.Refusals.{fullRoom, wellFormed, Result, stepOf}
 use Rattle.rules.specs.Tables.{Table, wellTable, TableResult, refusedTable, stepTable}
 use Rattle.rule_laws.proofs.TableSteps.{step-in-room, step-table-20, step-table-well}
 use Rattle.text.specs.Lines.{frontOf, behindOf, answerFor, roomless, viewFor, lineFor, linesIn, linesOf}
-use Rattle.text.proofs.LineLaws.{step-unread}
+use Rattle.text.proofs.LineLaws.{step-ends}
 
 -- 4 and 5 are of no room
 unread-roomless : (b : List ℕ) → (checkOf b ≡ 0 → ⊥) → roomless (checkOf b) ≡ true
@@ -45,32 +45,32 @@ none-printed room q = more (at 4 refl) (more (at 5 refl) (more (at 20 refl) none
     at : (n : ℕ) → roomless n ≡ true → q .refusal ≡ n → viewFor room q ≡ 0
     at n r e = ap (λ (m : ℕ). ifb (roomless m) 0 (q .table room .view .number)) e ∙ rw r
 
--- a record that names none of the rooms: every table refuses it, with the same number
-record Outside (b : List ℕ) : Type 0 where
+-- a record that names none of the rooms: it is refused for every table, with the same number
+record Outside (office : ℕ) (b : List ℕ) : Type 0 where
   number : ℕ
   none : roomless number ≡ true
-  is : (t : Table) → wellTable t ≡ true → stepTable t b fullRoom ≡ refusedTable number t
+  is : (t : Table) → stepTable office t b fullRoom ≡ refusedTable number t
 
-outside : (b : List ℕ) → (roomOf b < roomCount → ⊥) → Outside b
+outside : (office : ℕ) (b : List ℕ) → office < 16 → (roomOf b < roomCount → ⊥) → Outside office b
 unfolding roomless
-outside b l = go (ℕ-discrete (checkOf b) 0)
+outside office b known l = go (ℕ-discrete (checkOf b) 0)
   where
-    go : Dec (checkOf b ≡ 0) → Outside b
+    go : Dec (checkOf b ≡ 0) → Outside office b
     go (yes c) = record {
       number = 20;
       none = refl;
-      is = λ t w. step-table-20 t b fullRoom w (omega arith) c (omega arith);
+      is = λ t. step-table-20 office t b fullRoom known c (omega arith);
     }
-    go (no c) = record { number = checkOf b; none = unread-roomless b c; is = λ t w. step-unread t b w c }
+    go (no c) = record { number = checkOf b; none = unread-roomless b c; is = λ t. step-ends office t b known c }
 
 -- so a record that is answered with another number names one
-pub room-named : (t : Table) (b : List ℕ) → wellTable t ≡ true → roomless (stepTable t b fullRoom .refusal) ≡ false
-    → roomOf b < roomCount
-room-named t b w k = go (decLt (roomOf b) roomCount)
+pub room-named : (office : ℕ) (t : Table) (b : List ℕ) → office < 16
+    → roomless (stepTable office t b fullRoom .refusal) ≡ false → roomOf b < roomCount
+room-named office t b known k = go (decLt (roomOf b) roomCount)
   where
     go : Dec (roomOf b < roomCount) → roomOf b < roomCount
     go (yes l) = l
-    go (no l) = let o = outside b l in absurd (true-false _ (rw (o .is t w) (o .none)) k)
+    go (no l) = let o = outside office b known l in absurd (true-false _ (rw (o .is t) (o .none)) k)
 
 -- two tables that agree in every room
 abbrev pub Alike : Table → Table → Type 0
@@ -83,43 +83,45 @@ record SameAnswer (room : ℕ) (q r : TableResult) : Type 0 where
   view : viewFor room q ≡ viewFor room r
   alike : Alike (q .table) (r .table)
 
-same-answer : (t u : Table) → Alike t u → wellTable t ≡ true → (b : List ℕ)
-    → SameAnswer (roomOf b) (stepTable t b fullRoom) (stepTable u b fullRoom)
+same-answer : (office : ℕ) (t u : Table) → office < 16 → Alike t u → wellTable t ≡ true → (b : List ℕ)
+    → SameAnswer (roomOf b) (stepTable office t b fullRoom) (stepTable office u b fullRoom)
 unfolding viewFor wellTable
-same-answer t u h w b = go (decLt (roomOf b) roomCount)
+same-answer office t u known h w b = go (decLt (roomOf b) roomCount)
   where
     v : wellTable u ≡ true
     v = allb-ext roomCount _ _ (λ room l. ap wellFormed (sym (h room l))) ∙ w
 
     q : Result
-    q = stepOf (u (roomOf b)) b fullRoom
+    q = stepOf office (u (roomOf b)) b fullRoom
 
-    go : Dec (roomOf b < roomCount) → SameAnswer (roomOf b) (stepTable t b fullRoom) (stepTable u b fullRoom)
+    go : Dec (roomOf b < roomCount)
+        → SameAnswer (roomOf b) (stepTable office t b fullRoom) (stepTable office u b fullRoom)
     go (yes l) =
         let a : Alike (upd t (roomOf b) (q .state)) (upd u (roomOf b) (q .state)) =
         λ room m. upd-agree t u (roomOf b) (q .state) room (h room m) in
-        rw (step-in-room t b fullRoom w l, step-in-room u b fullRoom v l, h (roomOf b) l)
+        rw (step-in-room office t b fullRoom w l, step-in-room office u b fullRoom v l, h (roomOf b) l)
         (record { refusal = refl; written = refl; view = rw (a (roomOf b) l); alike = a })
     go (no l) =
-        let o = outside b l in
-        rw (o .is t w, o .is u v) (record { refusal = refl; written = refl; view = rw (o .none); alike = h })
+        let o = outside office b known l in
+        rw (o .is t, o .is u) (record { refusal = refl; written = refl; view = rw (o .none); alike = h })
 
-same-lines : (k : ℕ) (traced : Bool) (t u : Table) (n : ℕ) (b : List ℕ) → Alike t u → wellTable t ≡ true
-    → linesIn k traced t n b ≡ linesIn k traced u n b
-unfolding linesIn lineFor
-same-lines zero traced t u n b h w = refl
-same-lines (suc k) traced t u n b h w =
-    let a = same-answer t u h w (frontOf b) in
-    rw (
-      a .view,
-      a .refusal,
-      a .written,
-      same-lines k traced (answerFor t b .table) (answerFor u b .table) (n + 1) (behindOf b) (a .alike)
-          (step-table-well t (frontOf b) fullRoom w),
-    )
+module _ (traced : Bool) (office : ℕ) (known : office < 16) where
+  same-lines : (k : ℕ) (t u : Table) (n : ℕ) (b : List ℕ) → Alike t u → wellTable t ≡ true
+      → linesIn k traced office t n b ≡ linesIn k traced office u n b
+  unfolding linesIn lineFor
+  same-lines zero t u n b h w = refl
+  same-lines (suc k) t u n b h w =
+      let a = same-answer office t u known h w (frontOf b) in
+      rw (
+        a .view,
+        a .refusal,
+        a .written,
+        same-lines k (answerFor office t b .table) (answerFor office u b .table) (n + 1) (behindOf b) (a .alike)
+            (step-table-well office t (frontOf b) fullRoom w),
+      )
 
--- tables that agree in every room, and pass check 2, have the same text
-pub lines-same : (traced : Bool) (t u : Table) (n : ℕ) (b : List ℕ) → Alike t u → wellTable t ≡ true
-    → linesOf traced t n b ≡ linesOf traced u n b
-unfolding linesOf
-lines-same traced t u n b h w = same-lines (length b) traced t u n b h w
+  -- tables that agree in every room, and pass check 2, have the same text
+  pub lines-same : (t u : Table) (n : ℕ) (b : List ℕ) → Alike t u → wellTable t ≡ true
+      → linesOf traced office t n b ≡ linesOf traced office u n b
+  unfolding linesOf
+  lines-same t u n b h w = same-lines (length b) t u n b h w

@@ -19,9 +19,9 @@ frontOf b = ifb (eqb (runCheck b) 0) (runFirst b) b
 unfoldable pub behindOf : List ℕ → List ℕ
 behindOf b = ifb (eqb (runCheck b) 0) (runRest b) []
 
--- the step on the record in front
-abbrev pub answerFor : Table → List ℕ → TableResult
-answerFor t b = stepTable t (frontOf b) fullRoom
+-- the step on the record in front: it is read for the office, then acted on
+abbrev pub answerFor : ℕ → Table → List ℕ → TableResult
+answerFor office t b = stepTable office t (frontOf b) fullRoom
 
 -- with 4 or 5 the reading of the input ends
 abbrev pub endsReading : ℕ → Bool
@@ -46,16 +46,17 @@ lineFor traced n room q =
     lineOf n (q .refusal) (size (q .written)) (viewFor room q) (ifb traced (allBytes room (q .written)) [])
 
 -- the lines of at most k records, where n records came before
-unfoldable pub linesIn : ℕ → Bool → Table → ℕ → List ℕ → List ℕ
-linesIn zero traced t n b = []
-linesIn (suc k) traced t n b =
+unfoldable pub linesIn : ℕ → Bool → ℕ → Table → ℕ → List ℕ → List ℕ
+linesIn zero traced office t n b = []
+linesIn (suc k) traced office t n b =
+    let a = answerFor office t b in
     ifb (eqb (length b) 0) []
-    (lineFor traced (n + 1) (roomOf (frontOf b)) (answerFor t b)
-    ++ ifb (goesOn (answerFor t b .refusal)) (linesIn k traced (answerFor t b .table) (n + 1) (behindOf b)) [])
+    (lineFor traced (n + 1) (roomOf (frontOf b)) a
+    ++ ifb (goesOn (a .refusal)) (linesIn k traced office (a .table) (n + 1) (behindOf b)) [])
 
 -- the text for the rest of an input, which has no more records than bytes
-unfoldable pub linesOf : Bool → Table → ℕ → List ℕ → List ℕ
-linesOf traced t n b = linesIn (length b) traced t n b
+unfoldable pub linesOf : Bool → ℕ → Table → ℕ → List ℕ → List ℕ
+linesOf traced office t n b = linesIn (length b) traced office t n b
 
 -- no office byte, or one above 15
 unfoldable pub noOffice : List ℕ
@@ -65,4 +66,4 @@ noOffice = lineOf 0 1 0 0 []
 unfoldable pub textOf : Bool → List ℕ → List ℕ
 textOf traced [] = noOffice
 textOf traced (office ∷ b) =
-    ifb (eqb (madeTable office .refusal) 0) (linesOf traced (madeTable office .table) 0 b) noOffice
+    ifb (eqb (madeTable office .refusal) 0) (linesOf traced office (madeTable office .table) 0 b) noOffice

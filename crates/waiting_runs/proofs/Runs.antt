@@ -21,7 +21,7 @@ use Rattle.waiting_runs.proofs.Awaits.{Awaits, event-awaits}
 
 awaits-next : (s : State) (h : Input) → Awaits s → Awaits (nextState s h)
 unfolding answerTo
-awaits-next s h k = take-by s (h .event) (h .room) (λ ws t. Awaits t) k
+awaits-next s h k = take-by (h .office) s (h .event) (h .room) (λ ws t. Awaits t) k
     (λ a. event-awaits s (h .event) (well-facts s (a .well) .own) (a .acts .passes) k)
 
 awaits-fresh : (own : ℕ) → Awaits (fresh own)

@@ -50,8 +50,12 @@ serve-requires : tie.Need-serve-requires
 serve-requires c κs =
     let b = c .before .before .before .before in
     let i = b .before .before .if1 .left in
+    let m = b .before .before .before .before .make-table .ensures in
+    let t = not-false _ i in
     record {
-      sound = b .before .before .before .before .make-table .ensures .sound (not-false _ i);
+      known = m .known t;
+      sound = m .sound t;
+      own = m .own t;
       input = sym (b .before .large-buffer .ensures);
       room = refl;
       output = sym (b .large-buffer2 .ensures);

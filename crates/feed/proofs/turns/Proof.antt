@@ -7,17 +7,19 @@ use Rattle.feed.proofs.turns.Statement.{statement}
 use Rattle.feed.proofs.turns.Tie as tie
 
 abbrev Inv-loop : tie.InvT-loop
-Inv-loop table₀ input₀ out₀ output₀ traced place₀ more₀ failed₀ unread₀ left₀ table input out output place more failed
-    unread left = Ran traced table₀ table place input output more failed unread left
+Inv-loop office table₀ input₀ out₀ output₀ traced place₀ more₀ failed₀ unread₀ left₀ table input out output place more
+    failed unread left = Ran traced office table₀ table place input output more failed unread left
     × (length table ≡ length table₀) × (length input ≡ length input₀) × (length out ≡ length out₀)
     × (length output ≡ length output₀)
 
 abbrev μ-loop : tie.MeasureT-loop
-μ-loop table₀ input₀ out₀ output₀ traced place₀ more₀ failed₀ unread₀ left₀ table input out output place more failed
-    unread left = left
+μ-loop office table₀ input₀ out₀ output₀ traced place₀ more₀ failed₀ unread₀ left₀ table input out output place more
+    failed unread left = left
 
 loop-holds : tie.Need-loop-holds Inv-loop μ-loop
-loop-holds c = (ran-begun _ _ _ (c .before .before .before .before .pre .sound), refl, refl, refl, refl)
+loop-holds c =
+    let s = c .before .before .before .before .pre in
+    (ran-begun _ _ _ (s .sound) (s .own), refl, refl, refl, refl)
 
 turn-requires : tie.Need-turn-requires Inv-loop μ-loop
 turn-requires c κs =
@@ -25,7 +27,9 @@ turn-requires c κs =
     let s = c .before .before .before .before .before .before .before .before .before .before .pre in
     record {
       lent = record {
+        known = s .known;
         sound = l .0 .sound;
+        own = l .0 .own;
         input = l .2 ∙ s .input;
         room = l .3 ∙ s .room;
         output = l .4 ∙ s .output;
@@ -46,10 +50,10 @@ loop-again : tie.Need-loop-again Inv-loop μ-loop
 loop-again c =
     let b = c .before .before .before .before .before .before .before .before .before .before in
     let t = b .turn in
-    let k = t .kept .1 .1 in
+    let k = t .kept .1 in
     let l = b .before .before .before .before .before .before .loop .inv in
     let r = ran-turned (l .0) (omega arith) (t .ensures) (c .turns-left .ensures) in
-    (r, t .kept .0 ∙ l .1, k .0 ∙ l .2, k .1 .0 ∙ l .3, k .1 .1 .0 ∙ l .4)
+    (r, k .0 ∙ l .1, k .1 .1 .0 ∙ l .2, k .1 .1 .1 .0 ∙ l .3, k .1 .1 .1 .1 .0 ∙ l .4)
 
 same-length : tie.Need-same-length Inv-loop μ-loop
 same-length c = c .before .loop .inv .1

@@ -13,7 +13,7 @@ step-number-requires : tie.Need-step-number-requires
 step-number-requires c κs =
     let a = c .before .before .before .before .before .before .before .before .before .before .args in
     let w = c .before .before .before .before .step .ensures .same-written in
-    omega (arith, words-size (a .table .now) (a .«record» .now) (length (a .out .now)))
+    omega (arith, words-size (a .office) (a .table .now) (a .«record» .now) (length (a .out .now)))
 
 same-length : tie.Need-same-length
 same-length c = search needs
@@ -25,7 +25,7 @@ returns : tie.Need-returns
 returns c =
     let a = c .before .before .before .before .before .before .before .before .before .before .before .args in
     let s = c .before .before .before .before .before .step in
-    call-is (a .table .now) (a .«record» .now) (a .out .now) (s .result .refusal) (s .result .written) _ _
+    call-is (a .office) (a .table .now) (a .«record» .now) (a .out .now) (s .result .refusal) (s .result .written) _ _
     (c .step-number .result) (s .ensures)
     (c .step-number .ensures)
 

@@ -18,8 +18,8 @@ view-for-requires c κs =
     let h = c .before .before .before .before .before in
     let s = h .before .before .before .before .before .before .before .before in
     let l = s .pre .0 .lent in
-    let e = in-full _ _ (l .room) (h .step-held .ensures) in
-    (e .sound, room-known (s .args .table .now) _ (l .sound) e)
+    let e = in-full _ _ _ (l .room) (h .step-held .ensures) in
+    (e .sound, room-known (s .args .office) (s .args .table .now) _ (l .known) e)
 
 told-requires : tie.Need-told-requires
 unfolding windowOf
@@ -35,8 +35,8 @@ told-requires c κs =
       line = s .pre .1;
       number = r .number;
       output = r .lent .output;
-      written = written-short _ _ _ (a .ensures);
-      shown = a .kept .1 .1 .0 ∙ r .lent .room;
+      written = written-short _ _ _ _ (a .ensures);
+      shown = a .kept .1 .1 .1 .0 ∙ r .lent .room;
     }
 
 goes-on-requires : tie.Need-goes-on-requires
@@ -61,8 +61,8 @@ returns c =
     let s = f .before .before .before .before .before in
     let l = s .pre .0 .lent .room in
     rw (sym (f .front .ensures))
-    (answered (s .args .traced) (s .args .p) _ (in-full _ _ l (h .step-held .ensures)) l (v .view-for .ensures)
-    (t .told .ensures) (c .goes-on .ensures))
+    (answered (s .args .traced) (s .args .office) (s .args .p) _ (in-full _ _ _ l (h .step-held .ensures)) l
+    (v .view-for .ensures) (t .told .ensures) (c .goes-on .ensures))
 
 pub answer-spec : {M : Type 1} → statement M
 answer-spec =

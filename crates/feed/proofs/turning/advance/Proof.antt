@@ -23,8 +23,7 @@ returns c =
     let i = f .before .before in
     let s = i .before .before .before .before .before in
     let a = s .args in
-    let r = s .pre .0 in
-    advances-read (a .traced) (a .p) (a .input .now) (a .output .now) (r .lent .sound) (r .within)
+    advances-read (a .traced) (a .office) (a .p) (a .input .now) (a .output .now) (s .pre .0)
     (sym (s .pre .1) ∙ i .if1 .taken) (f .refill .ensures)
 
 returns-2 : tie.Need-returns-2
@@ -34,7 +33,7 @@ returns-2 c =
     let r = s .pre .0 in
     let w = r .within in
     let n = window-length (a .p) (a .input .now) (w .unread) (omega (arith, w .read, r .lent .input)) in
-    advances-stop (a .traced) (a .p) (a .input .now) (a .output .now) (r .lent .sound) w
+    advances-stop (a .traced) (a .office) (a .p) (a .input .now) (a .output .now) r
     (sym (s .pre .1) ∙ c .before .before .if1 .left) (omega (arith, n, c .if2 .taken))
 
 answer-requires : tie.Need-answer-requires
@@ -65,7 +64,7 @@ returns-3 c =
     let r = s .pre .0 in
     let w = r .within in
     let n = window-length (a .p) (a .input .now) (w .unread) (omega (arith, w .read, r .lent .input)) in
-    advances-answer (a .traced) (a .p) (a .input .now) (a .output .now) (r .lent .sound) w (r .lent .input)
+    advances-answer (a .traced) (a .office) (a .p) (a .input .now) (a .output .now) r
     (sym (s .pre .1) ∙ i .if1 .left) (omega (arith, n, w .unread, e .if2 .left)) (b .answer .ensures)
 
 pub advance-spec : {M : Type 1} → statement M

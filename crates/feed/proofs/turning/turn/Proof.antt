@@ -49,7 +49,7 @@ returns c =
     let a = s .args in
     let q = e .emptied .ensures in
     turns-on (a .p) _ (a .output .now) _ (s .pre .within) (s .pre .lent .output) q
-    (a .traced) (a .input .now) (b .waits .ensures) (sym (t .before .has-room .ensures) ∙ t .if1 .taken)
+    (a .traced) (a .office) (a .input .now) (b .waits .ensures) (sym (t .before .has-room .ensures) ∙ t .if1 .taken)
     (n .advance .ensures)
 
 same-length-5 : tie.Need-same-length-5
@@ -67,7 +67,7 @@ returns-2 c =
     let q = e .emptied .ensures in
     let r = sent-ready (a .input .now) (a .output .now) (s .pre) q (e .emptied .kept .1 .0) in
     turns-failed (a .p) _ (a .output .now) _ (s .pre .within) (s .pre .lent .output) q
-    (a .traced) (a .input .now) (b .waits .ensures) (s .pre .lent .sound) (r .0 .within)
+    (a .traced) (a .office) (a .input .now) (b .waits .ensures) (r .0)
     (λ z. true-false _ (c .before .has-room .ensures ∙ z) (c .if1 .left))
 
 pub turn-spec : {M : Type 1} → statement M

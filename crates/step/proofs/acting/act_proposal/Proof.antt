@@ -9,7 +9,7 @@ use Rattle.step.proofs.acting.act_proposal.Statement.{statement}
 use Rattle.step.proofs.acting.act_proposal.Tie as tie
 
 proposal-requires : tie.Need-proposal-requires
-proposal-requires c κs = c .before .before .before .pre .sound
+proposal-requires c κs = let p = c .before .before .before .pre in (p .0 .sound, p .1)
 
 refuse-requires : tie.Need-refuse-requires
 refuse-requires c κs = search needs
@@ -30,7 +30,7 @@ act-on-proposal-requires : tie.Need-act-on-proposal-requires
 act-on-proposal-requires c κs =
     let n = c .before .before .before in
     let s = n .before .before .before .before in
-    let ready = s .pre in
+    let ready = s .pre .0 in
     let ws = s .args .state .now in
     let p = s .args .proposal in
     let t = accepts-event ws (aProposal p) (n .proposal .result) (n .proposal .ensures) (c .before .before .if1 .left) in
