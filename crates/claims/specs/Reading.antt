@@ -12,7 +12,7 @@ use Rattle.records.specs.Layout.{roomOf}
 use Rattle.rules.specs.State.{State}
 use Rattle.rules.specs.Refusals.{fullRoom, Event, readNumber, refused, actWith, takeOf}
 use Rattle.rules.specs.Tables.{Table, wellTable, RoomEvent, refusedTable, inTable, actTable, noEvent}
-use Rattle.rules.specs.Tables.{eventIn, readOf, stepTable, roomCheck, takeTable}
+use Rattle.rules.specs.Tables.{recordEvent, readOf, stepTable, roomCheck, takeTable}
 use Rattle.rules.specs.Turns.{undivided, eventBytes, FitsEvent, readOrder, actOrder, turnChecks}
 use Rattle.rule_laws.proofs.Order.{pairs}
 use Rattle.events.specs.Events.{eventHeld, readEvent}
@@ -22,7 +22,7 @@ pub record ReadingCall : Type 0 where
   -- It gives 1 when the office is above 15, then 4, 5, 20, 6 to 10 and 19, in that order;
   pub read-order : (office : ℕ) (b : List ℕ) → readOf office b .refusal ≡ firstOf (readOrder office b)
   -- otherwise the event of the record, the room that it names and what it says,
-  pub read-event : (office : ℕ) (b : List ℕ) → readOf office b .refusal ≡ 0 → readOf office b .event ≡ eventIn b
+  pub read-event : (office : ℕ) (b : List ℕ) → readOf office b .refusal ≡ 0 → readOf office b .event ≡ recordEvent b
   -- and with a refusal an empty report of room 0.
   pub read-none : (office : ℕ) (b : List ℕ) → (readOf office b .refusal ≡ 0 → ⊥) → readOf office b .event ≡ noEvent
   -- The event that the code gives holds just this.
@@ -61,7 +61,7 @@ pub record InTurn : Type 0 where
       → stepTable office t b output ≡ refusedTable (readOf office b .refusal) t
   -- any other is acted on.
   pub turn-acts : (office : ℕ) (t : Table) (b : List ℕ) (output : ℕ) → readOf office b .refusal ≡ 0
-      → stepTable office t b output ≡ actTable t (eventIn b) output
+      → stepTable office t b output ≡ actTable t (recordEvent b) output
   -- That is the step of request 9, where 2 and 3 pass and the room's own office is the office given.
   pub turn-undivided : (office : ℕ) (t : Table) (b : List ℕ) (output : ℕ) → office < 16 → wellTable t ≡ true
       → fullRoom ≤ output → (roomOf b < roomCount → t (roomOf b) .own ≡ office)

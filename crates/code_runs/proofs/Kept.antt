@@ -20,7 +20,7 @@ use Rattle.rules.specs.Rules.{Written, fresh}
 use Rattle.rules.specs.MarkFile.{goodFile}
 use Rattle.rules.specs.Leaving.{Action, actionsOf, leftIn}
 use Rattle.rules.specs.Refusals.{readCheck, bytesOf, restartOf, eventOf}
-use Rattle.rules.specs.Tables.{Table, wellTable, RoomEvent, restartTable, TableResult, actTable, noEvent, eventIn}
+use Rattle.rules.specs.Tables.{Table, wellTable, RoomEvent, restartTable, TableResult, actTable, noEvent, recordEvent}
 use Rattle.rules.specs.Tables.{takeTable}
 use Rattle.rule_laws.proofs.Leaving.{order-passes}
 use Rattle.rule_laws.proofs.Tables.{act-2, act-3, take-table-by}
@@ -81,7 +81,7 @@ module _ (ws : List ℕ) (s : SoundTable ws) (t : Table) (a : Agree (tableOf ws)
       go : Dec (readCheck (h .bytes) ≡ 0) → Answers
       go (yes z) =
           let e = step-table-takes (h .office) (tableOf ws) b (h .output) z in
-          let x = take-agree (tableOf ws) t a (eventIn b) (h .output) (h .office) in
+          let x = take-agree (tableOf ws) t a (recordEvent b) (h .output) (h .office) in
           record {
             written = rw z (wrote ws h (sound-is ws s) ∙ ap (λ (q : TableResult). q .written) e ∙ x .written);
             table = λ room l. rw z (ap (λ (q : Table). q room) (held ws h (sound-is ws s) .1)

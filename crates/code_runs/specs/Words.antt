@@ -6,7 +6,7 @@ use Rattle.laws.specs.Upd.{ifb}
 use Rattle.records.specs.Layout.{roomOf}
 use Rattle.rules.specs.Rules.{Written}
 use Rattle.rules.specs.Refusals.{readCheck}
-use Rattle.rules.specs.Tables.{eventIn as readEvent}
+use Rattle.rules.specs.Tables.{recordEvent}
 use Rattle.rooms.specs.Roomed.{Roomed, roomed}
 use Rattle.rooms.specs.Handing.{Handed as RoomHanded}
 use Rattle.step.specs.Step.{WordsResult, stepWords}
@@ -32,7 +32,7 @@ wordsSent ws (h ∷ hs) =
 
 -- what the table was handed: the event of each record, for its office; bytes that fail checks 4, 5 and 20 hold none
 abbrev pub eventIn : Handed → RoomHanded
-eventIn h = record { office = h .office; event = readEvent (h .bytes); output = h .output }
+eventIn h = record { office = h .office; event = recordEvent (h .bytes); output = h .output }
 
 unfoldable pub eventsOf : List Handed → List RoomHanded
 eventsOf [] = []

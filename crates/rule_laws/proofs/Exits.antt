@@ -2,7 +2,6 @@
 use mathlib.Core.Path.{_≡_, refl}
 use mathlib.Core.Bool.{Bool, true, false}
 use mathlib.Core.List.{List, []}
-use mathlib.Core.Logic.{_⊎_, inl, inr}
 use Prim.Native.Nat.{ℕ, _≤_, _<_}
 use native.Mathlib.Omega.{arith}
 use native.Mathlib.Decide.{decLt}
@@ -14,9 +13,8 @@ use Rattle.records.proofs.CheckLaws.{own-mark}
 use Rattle.rules.specs.State.{State}
 use Rattle.rules.specs.Rules.{fresh}
 use Rattle.rules.specs.Refusals.{wellFormed, madeOf, Event, aReport, aProposal, eventOf, refusalOf, ruleOf, accepting}
-use Rattle.rules.specs.Refusals.{actOf, stepOf, allBytes, size}
-use Rattle.rule_laws.proofs.Steps.{Refused, Accepts, step-cases, fresh-well}
-use Rattle.rule_laws.proofs.Sizes.{step-size}
+use Rattle.rules.specs.Refusals.{actOf, allBytes}
+use Rattle.rule_laws.proofs.Steps.{fresh-well}
 
 -- 1
 module _ (o : ℕ) where
@@ -66,14 +64,3 @@ proposal-read b c = rw (own-mark proposalMark proposalLength b c)
 pub no-bytes : (room : ℕ) → allBytes room [] ≡ []
 unfolding allBytes
 no-bytes room = refl
-
--- what the step writes has room
-pub room-enough : (office : ℕ) (s : State) (b : List ℕ) (output : ℕ)
-    → size (stepOf office s b output .written) ≤ output
-unfolding allBytes
-room-enough office s b output = go (step-cases office s b output)
-  where
-    go : Refused s (stepOf office s b output) ⊎ Accepts office s b output
-        → size (stepOf office s b output .written) ≤ output
-    go (inl r) = rw (r .is) (omega arith)
-    go (inr a) = let z = step-size office s b output in omega (arith, a .fits)

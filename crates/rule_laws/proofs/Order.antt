@@ -15,7 +15,7 @@ use Rattle.rules.specs.State.{None, State}
 use Rattle.rules.specs.Rules.{fresh, restarted}
 use Rattle.rules.specs.Refusals.{fullRoom}
 use Rattle.rules.specs.Tables.{Table, wellTable, barred, actTable, readOf, stepTable}
-use Rattle.rules.specs.Turns.{turnChecks}
+use Rattle.rules.specs.Turns.{readOrder, turnChecks}
 use Rattle.rules.specs.Days.{given}
 
 -- A proposal of office 1 handed to office 0, with the faults that `has` says, each by its number; 60 and 90 are 6 and
@@ -115,7 +115,7 @@ pairs =
     ∷ orderedAll 12 (13 ∷ []) ∷ []
 
 pub in-order : Every (λ (u : Bool). u ≡ true) pairs
-unfolding pairs given stepTable readOf actTable barred wellTable turnChecks
+unfolding pairs given stepTable readOf actTable barred wellTable turnChecks readOrder
 in-order =
     more refl (more refl (more refl (more refl (more refl (more refl (more refl (more refl
     (more refl (more refl (more refl (more refl (more refl (more refl (more refl (more refl none)))))))))))))))

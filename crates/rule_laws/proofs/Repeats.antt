@@ -10,8 +10,8 @@ use Rattle.records.specs.Fits.{FitsReport}
 use Rattle.records.specs.declared.Report.{Report}
 use Rattle.rules.specs.State.{State}
 use Rattle.rules.specs.Rules.{nothingWritten, netAfter, withNet, repeats, changeRule, reportRule}
-use Rattle.rules.specs.Refusals.{readCheck, wellFormed, fullRoom, aReport, eventOf, actOf, stepOf, accepted}
-use Rattle.rule_laws.proofs.Steps.{read-facts, AcceptsEvent, act-accepts, step-accepts}
+use Rattle.rules.specs.Refusals.{readCheck, wellFormed, fullRoom, aReport, eventOf, stepOf, accepted}
+use Rattle.rule_laws.proofs.Steps.{read-facts, AcceptsEvent, step-accepts}
 
 module _ (s : State) (r : Report) where
   abbrev net : ℕ
@@ -47,9 +47,6 @@ module _ (s : State) (r : Report) where
   module _ (well : wellFormed s ≡ true) (e : repeats s r ≡ true) where
     repeat-accepted : AcceptsEvent s (aReport r)
     repeat-accepted = record { passes = refl; within = rw (repeat-rule e) well }
-
-    pub repeat-acts : actOf s (aReport r) ≡ accepted (nothingWritten s)
-    repeat-acts = act-accepts s (aReport r) repeat-accepted ∙ ap accepted (repeat-rule e)
 
     pub repeat-step : (office : ℕ) (b : List ℕ) (output : ℕ) → office < 16 → readCheck b ≡ 0 → fullRoom ≤ output
         → eventOf b ≡ aReport r → stepOf office s b output ≡ accepted (nothingWritten s)

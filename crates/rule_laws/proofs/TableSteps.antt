@@ -8,7 +8,7 @@ use native.Mathlib.Omega.{arith}
 use native.Mathlib.Decide.{ℕ-discrete}
 use lib.Dec.{eqb}
 use borrow.Author.Tests.{ne-eqb, le-leb, lt-leb, le-ltb}
-use Rattle.laws.proofs.Upd.{upd-other, upd-self, upd-cases}
+use Rattle.laws.proofs.Upd.{upd-self, upd-cases}
 use Rattle.laws.proofs.Fin.{if-cases}
 use Rattle.records.specs.Numbers.{roomCount}
 use Rattle.records.specs.Layout.{checkOf, roomOf}
@@ -16,7 +16,7 @@ use Rattle.rules.specs.State.{State}
 use Rattle.rules.specs.Refusals.{wellFormed, fullRoom, readCheck, readNumber, formRefusal, eventOf, stepOf, accepted}
 use Rattle.rules.specs.Refusals.{ruleOf, allBytes, size}
 use Rattle.rules.specs.Tables.{Table, wellTable, RoomEvent, TableResult, refusedTable, inTable, actTable, noEvent}
-use Rattle.rules.specs.Tables.{eventIn, readOf, stepTable, roomCheck, takeTable}
+use Rattle.rules.specs.Tables.{recordEvent, readOf, stepTable, roomCheck, takeTable}
 use Rattle.rule_laws.proofs.Steps.{Refused, Accepts, read-facts, reading-facts, step-cases, step-accepts}
 use Rattle.rule_laws.proofs.Tables.{room-well, well-rooms, act-2, acts-in-room, act-table-answer}
 use Rattle.rule_laws.proofs.Reasons.{Answer, read-answer, reading-answer}
@@ -28,7 +28,7 @@ module _ (office : ℕ) (b : List ℕ) where
   unfolding readOf
   read-refusal = refl
 
-  pub read-event : readOf office b .refusal ≡ 0 → readOf office b .event ≡ eventIn b
+  pub read-event : readOf office b .refusal ≡ 0 → readOf office b .event ≡ recordEvent b
   unfolding readOf
   read-event z = rw z
 
@@ -49,7 +49,7 @@ module _ (office : ℕ) (t : Table) (b : List ℕ) (output : ℕ) where
   unfolding stepTable
   step-unread n = rw (ne-eqb (readOf office b .refusal) 0 n)
 
-  pub step-acts : readOf office b .refusal ≡ 0 → stepTable office t b output ≡ actTable t (eventIn b) output
+  pub step-acts : readOf office b .refusal ≡ 0 → stepTable office t b output ≡ actTable t (recordEvent b) output
   unfolding stepTable
   step-acts z = rw z (ap (λ (e : RoomEvent). actTable t e output) (read-event office b z))
 
@@ -61,7 +61,7 @@ module _ (office : ℕ) (t : Table) (b : List ℕ) (output : ℕ) where
       go : Dec (readOf office b .refusal ≡ 0)
           → stepTable office t b output ≡ inTable t (roomOf b) (stepOf office (t (roomOf b)) b output)
       go (yes z) =
-          step-acts z ∙ acts-in-room t (eventIn b) output w l
+          step-acts z ∙ acts-in-room t (recordEvent b) output w l
           ∙ (unfold stepOf in rw (sym (read-refusal office b) ∙ z))
       go (no n) =
           step-unread n ∙ ap (refusedTable (readOf office b .refusal)) (sym (upd-self t (roomOf b)))
@@ -70,7 +70,7 @@ module _ (office : ℕ) (t : Table) (b : List ℕ) (output : ℕ) where
   -- 2, where the record passes its reading, whatever its room
   pub step-table-2 : readOf office b .refusal ≡ 0 → wellTable t ≡ false
       → stepTable office t b output ≡ refusedTable 2 t
-  step-table-2 z w = step-acts z ∙ act-2 t (eventIn b) output w
+  step-table-2 z w = step-acts z ∙ act-2 t (recordEvent b) output w
 
   -- 20, whatever the table and the output
   pub step-table-20 : office < 16 → checkOf b ≡ 0 → roomCount ≤ roomOf b
@@ -81,7 +81,7 @@ module _ (office : ℕ) (t : Table) (b : List ℕ) (output : ℕ) where
       rw (le-ltb 15 office a, c, le-leb roomCount (roomOf b) l)
 
   -- a record that passes 4, 5 and 20 is the event that it holds, handed to the office
-  pub step-table-takes : readCheck b ≡ 0 → stepTable office t b output ≡ takeTable office t (eventIn b) output
+  pub step-table-takes : readCheck b ≡ 0 → stepTable office t b output ≡ takeTable office t (recordEvent b) output
   step-table-takes e = go (ℕ-discrete (readOf office b .refusal) 0)
     where
       found : roomCheck (roomOf b) ≡ 0
@@ -90,7 +90,7 @@ module _ (office : ℕ) (t : Table) (b : List ℕ) (output : ℕ) where
       number : readNumber office (roomCheck (roomOf b)) (eventOf b) ≡ readOf office b .refusal
       number = rw found (sym (read-refusal office b ∙ ap (λ (n : ℕ). readNumber office n (eventOf b)) e))
 
-      go : Dec (readOf office b .refusal ≡ 0) → stepTable office t b output ≡ takeTable office t (eventIn b) output
+      go : Dec (readOf office b .refusal ≡ 0) → stepTable office t b output ≡ takeTable office t (recordEvent b) output
       go (yes z) = step-acts z ∙ (unfold takeTable in rw (number, z))
       go (no n) = step-unread n ∙ (unfold takeTable in rw (number, ne-eqb (readOf office b .refusal) 0 n))
 
@@ -150,11 +150,6 @@ module _ (office : ℕ) (t : Table) (b : List ℕ) (output : ℕ) where
       go : TableRefused ⊎ TableAccepts → P (stepTable office t b output)
       go (inl r) = rw (r .is) (z (stepTable office t b output .refusal) (r .reason))
       go (inr a) = rw (table-accepts a) (h a)
-
-  -- the other rooms stay
-  pub rooms-stay : (room : ℕ) → (room ≡ roomOf b → ⊥) → stepTable office t b output .table room ≡ t room
-  rooms-stay room n =
-      table-by (λ q. q .table room ≡ t room) (λ m d. refl) (λ a. upd-other t (roomOf b) _ room n)
 
   -- a refusal leaves the table and writes nothing
   pub table-keeps : (stepTable office t b output .refusal ≡ 0 → ⊥)

@@ -1,5 +1,5 @@
 -- One event acted on in a table, and handed to an office: its room takes it as a state alone would, and the other
--- rooms stay. Tables that are made, and made again.
+-- rooms stay. Tables that are made again.
 use mathlib.Core.Path.{_≡_, refl, sym, ap, _∙_}
 use mathlib.Core.Bool.{Bool, true, false, not}
 use mathlib.Core.Logic.{_⊎_, inl, inr}
@@ -8,16 +8,16 @@ use Prim.Native.Nat.{ℕ, _≤_, _<_}
 use native.Mathlib.Omega.{arith}
 use native.Mathlib.Decide.{ℕ-discrete}
 use lib.Dec.{eqb, ltb}
-use borrow.Author.Tests.{ne-eqb, le-ltb, lt-ltb, ltb-true, ltb-false, le-leb, lt-leb, leb-false}
+use borrow.Author.Tests.{ne-eqb, le-ltb, lt-ltb, ltb-true, ltb-false, lt-leb, leb-false}
 use Rattle.laws.proofs.Fin.{if-cases, as-facts}
 use Rattle.laws.proofs.Upd.{upd-same, upd-other, upd-self}
 use Rattle.laws.specs.Upd.{ifb}
 use Rattle.records.specs.Numbers.{roomCount, roomAbove}
 use Rattle.rules.specs.Rules.{Written, fresh, restarted}
 use Rattle.rules.specs.MarkFile.{lastHigh}
-use Rattle.rules.specs.Refusals.{wellFormed, madeOf, restartOf, fullRoom, readNumber, Result, refused, actOf, actWith}
+use Rattle.rules.specs.Refusals.{wellFormed, restartOf, fullRoom, readNumber, Result, refused, actOf, actWith}
 use Rattle.rules.specs.Refusals.{takeOf}
-use Rattle.rules.specs.Tables.{Table, freshTable, restartedTable, wellTable, madeTable, restartTable, RoomEvent}
+use Rattle.rules.specs.Tables.{Table, restartedTable, wellTable, restartTable, RoomEvent}
 use Rattle.rules.specs.Tables.{TableResult, refusedTable, shownIn, inTable, barred, actTable, roomCheck, takeTable}
 use Rattle.rule_laws.proofs.Parts.{restarted-reads, restarted-view}
 use Rattle.rule_laws.proofs.Reasons.{Answer, accepts, no-room, reason, act-answer}
@@ -156,15 +156,6 @@ module _ (t : Table) (e : RoomEvent) (output : ℕ) where
             (λ z. absurd (let f = reading-facts office (roomCheck (e .room)) (e .what) .0 z .1 in
             let g : roomCheck (e .room) ≡ 20 = rw a in omega arith)))
 
--- a table that is made: fresh in every room
-pub made-table : (office : ℕ) → office < 16 → madeTable office ≡ record { refusal = 0; table = freshTable office }
-unfolding madeTable madeOf
-made-table office l = rw (le-leb office 15 (omega arith))
-
-pub made-table-1 : (office : ℕ) → 15 < office → madeTable office ≡ record { refusal = 1; table = freshTable 0 }
-unfolding madeTable madeOf
-made-table-1 office l = rw (lt-leb office 15 l)
-
 -- one that is made again: every room begins at the same number, that of the last whole mark
 pub restarted-table : (office : ℕ) (f : List ℕ) → restartTable office f .refusal ≡ 0
     → restartTable office f .table ≡ restartedTable office (lastHigh f)
@@ -178,10 +169,3 @@ pub restarted-same : (office : ℕ) (f : List ℕ) → restartTable office f .re
 restarted-same office f z room =
     let r = restarted-reads office (lastHigh f) in
     rw (restarted-table office f z) (r .number-is, r .start-is, restarted-view office (lastHigh f))
-
--- 1 and 18 give the fresh table of office 0
-pub restart-table-refused : (office : ℕ) (f : List ℕ) → (restartTable office f .refusal ≡ 0 → ⊥)
-    → restartTable office f .table ≡ freshTable 0
-unfolding restartTable restartOf
-restart-table-refused office f n =
-    ap {B = Table} (λ (u : Bool) (room : ℕ). ifb u (restarted office (lastHigh f)) (fresh 0)) (ne-eqb _ 0 n)

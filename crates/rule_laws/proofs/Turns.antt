@@ -23,8 +23,8 @@ use Rattle.rules.specs.Refusals.{wellFormed, fullRoom, readCheck, Event, aRepor
 use Rattle.rules.specs.Refusals.{wrongKind, wrongNumber, withoutSeat, strayUsed, usesItself, formChecks, formRefusal}
 use Rattle.rules.specs.Refusals.{readNumber, stateChecks, proposalChecks, refusalOf, ruleOf, Result, refused}
 use Rattle.rules.specs.Refusals.{accepting, actOf, takeOf}
-use Rattle.rules.specs.Tables.{Table, wellTable, RoomEvent, refusedTable, inTable, actTable, noEvent, eventIn, readOf}
-use Rattle.rules.specs.Tables.{barred, stepTable, roomCheck, takeTable}
+use Rattle.rules.specs.Tables.{Table, wellTable, RoomEvent, refusedTable, inTable, actTable, noEvent, recordEvent}
+use Rattle.rules.specs.Tables.{readOf, barred, stepTable, roomCheck, takeTable}
 use Rattle.rules.specs.Turns.{undivided, eventBytes, FitsEvent, formsOf, officeChecks, statesOf, ceilingOf}
 use Rattle.rules.specs.Turns.{readOrder, actOrder, turnChecks}
 use Rattle.rule_laws.proofs.Checking.{form-numbers, form-first}
@@ -106,9 +106,6 @@ module _ (office : ℕ) (e : RoomEvent) (f : FitsEvent (e .what)) where
   abbrev number : ℕ
   number = readNumber office (roomCheck (e .room)) (e .what)
 
-  same-event : eventIn bytes ≡ e
-  same-event = rw (event-room (e .room) (e .what), event-back (e .room) (e .what) f)
-
   -- its bytes meet the checks that it meets, and give it back where none applies
   pub hand-read : readOf office bytes ≡ record { refusal = number; event = ifb (eqb number 0) e noEvent }
   unfolding readOf
@@ -136,8 +133,8 @@ turn-undivided office t b output known w fits own = go (ℕ-discrete (readCheck 
     go (yes z) =
         let a = read-facts b .0 z .1 in
         step-table-takes office t b output z
-        ∙ hand-acts office t (eventIn b) output known w fits own
-        ∙ act-in-room t (eventIn b) output w fits a
+        ∙ hand-acts office t (recordEvent b) output known w fits own
+        ∙ act-in-room t (recordEvent b) output w fits a
         ∙ rw (w, le-ltb output fullRoom fits, z)
     go (no n) =
         let low = le-ltb 15 office (omega arith) in
@@ -255,20 +252,20 @@ module _ (office : ℕ) (t : Table) (b : List ℕ) (output : ℕ) where
       record { number = 2; applies = not (wellTable t) } ∷ record { number = 3; applies = ltb output fullRoom }
       ∷ (officeChecks (state .own) event ++ (statesOf state event ++ ceilingOf state event))
 
-  act-order : roomAbove (roomOf b) ≡ false → form ≡ 0 → actTable t (eventIn b) output .refusal ≡ firstOf acted
+  act-order : roomAbove (roomOf b) ≡ false → form ≡ 0 → actTable t (recordEvent b) output .refusal ≡ firstOf acted
   act-order a z = go (wellTable t) refl (ltb output fullRoom) refl
     where
       go : (u : Bool) → wellTable t ≡ u → (v : Bool) → ltb output fullRoom ≡ v
-          → actTable t (eventIn b) output .refusal ≡ firstOf acted
-      go false w v l = rw (act-2 t (eventIn b) output w, w)
-      go true w true l = rw (act-3 t (eventIn b) output w (ltb-true output fullRoom l), w, l)
+          → actTable t (recordEvent b) output .refusal ≡ firstOf acted
+      go false w v l = rw (act-2 t (recordEvent b) output w, w)
+      go true w true l = rw (act-3 t (recordEvent b) output w (ltb-true output fullRoom l), w, l)
       go true w false l =
           let below = leb-false roomCount (roomOf b) a in
-          rw (act-in-room t (eventIn b) output w (ltb-false output fullRoom l) below, w, l)
+          rw (act-in-room t (recordEvent b) output w (ltb-false output fullRoom l) below, w, l)
           (acting-order office state event z)
 
   pub turn-order : stepTable office t b output .refusal ≡ firstOf (turnChecks office t b output)
-  unfolding turnChecks stepTable readOf readNumber readCheck
+  unfolding turnChecks readOrder stepTable readOf readNumber readCheck
   turn-order = go (ltb 15 office) refl (ℕ-discrete (checkOf b) 0) (roomAbove (roomOf b)) refl (ℕ-discrete form 0)
     where
       go : (u : Bool) → ltb 15 office ≡ u → Dec (checkOf b ≡ 0) → (v : Bool) → roomAbove (roomOf b) ≡ v

@@ -88,14 +88,14 @@ abbrev pub noEvent : RoomEvent
 noEvent = record { room = 0; what = aReport noReport }
 
 -- the event of a record
-abbrev pub eventIn : List ℕ → RoomEvent
-eventIn b = record { room = roomOf b; what = eventOf b }
+abbrev pub recordEvent : List ℕ → RoomEvent
+recordEvent b = record { room = roomOf b; what = eventOf b }
 
 -- the reading call: a record for an office: 1, 4, 5, 20, then 6 to 10 and 19
 unfoldable pub readOf : ℕ → List ℕ → ReadResult
 readOf office b =
     let n = readNumber office (readCheck b) (eventOf b) in
-    record { refusal = n; event = ifb (eqb n 0) (eventIn b) noEvent }
+    record { refusal = n; event = ifb (eqb n 0) (recordEvent b) noEvent }
 
 -- the step: both in turn
 unfoldable pub stepTable : ℕ → Table → List ℕ → ℕ → TableResult

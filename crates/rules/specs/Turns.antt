@@ -66,9 +66,6 @@ unfoldable pub turnChecks : ℕ → Table → List ℕ → ℕ → List Check
 turnChecks office t b output =
     let s = t (roomOf b) in
     let e = eventOf b in
-    record { number = 1; applies = ltb 15 office } ∷ numbered (checkOf b)
-    ∷ record { number = 20; applies = roomAbove (roomOf b) }
-    ∷ (formsOf office e
+    readOrder office b
     ++ (record { number = 2; applies = not (wellTable t) } ∷ record { number = 3; applies = ltb output fullRoom }
-    ∷ (officeChecks (s .own) e
-    ++ (statesOf s e ++ ceilingOf s e))))
+    ∷ (officeChecks (s .own) e ++ (statesOf s e ++ ceilingOf s e)))

@@ -12,7 +12,7 @@ use Rattle.laws.proofs.Fin.{true-false}
 use Rattle.records.specs.Numbers.{roomCount, roomAbove}
 use Rattle.records.specs.Layout.{roomOf}
 use Rattle.rules.specs.Refusals.{fullRoom, formRefusal}
-use Rattle.rules.specs.Tables.{wellTable, RoomEvent, eventIn, readOf}
+use Rattle.rules.specs.Tables.{wellTable, RoomEvent, recordEvent, readOf}
 use Rattle.rule_laws.proofs.Checking.{form-first}
 use Rattle.rule_laws.proofs.Tables.{act-2, act-3, act-20, act-in-room}
 use Rattle.rule_laws.proofs.Steps.{read-facts}
@@ -109,7 +109,7 @@ module _ (office : ℕ) (ws b : List ℕ) (output : ℕ) where
   unfolding stepWords
   exit-unread n e d = rw (← e, ne-eqb n 0 d)
 
-  pub exit-acts : readOf office b .refusal ≡ 0 → stepWords office ws b output ≡ actWords ws (eventIn b) output
+  pub exit-acts : readOf office b .refusal ≡ 0 → stepWords office ws b output ≡ actWords ws (recordEvent b) output
   unfolding stepWords
   exit-acts z = rw (z, read-event office b z)
 
@@ -117,7 +117,8 @@ module _ (office : ℕ) (ws b : List ℕ) (output : ℕ) where
       → stepWords office ws b output ≡ kept 3 ws
   exit-3 sound l z =
       let u = unready-3 ws output sound l in
-      exit-acts z ∙ exit-unready ws (eventIn b) output (λ d. omega (arith, sym u ∙ d)) ∙ ap (λ (n : ℕ). kept n ws) u
+      exit-acts z ∙ exit-unready ws (recordEvent b) output (λ d. omega (arith, sym u ∙ d))
+      ∙ ap (λ (n : ℕ). kept n ws) u
 
 -- a record that was read: its event is acted on
 module _ (office : ℕ) (ws b : List ℕ) (r : EventRead) (is : r ≡ readEvent office b) where
@@ -131,7 +132,7 @@ module _ (office : ℕ) (ws b : List ℕ) (r : EventRead) (is : r ≡ readEvent 
     pub read-zero : readOf office b .refusal ≡ 0
     read-zero = sym number ∙ z
 
-    held : eventHeld (r .event) ≡ eventIn b
+    held : eventHeld (r .event) ≡ recordEvent b
     held = ap (λ (x : EventRead). eventHeld (x .event)) is ∙ read-held office b ∙ read-event office b read-zero
 
     pub turn-meets : (o ws′ o′ : List ℕ) (n k : ℕ)

@@ -1,5 +1,6 @@
-// The reading and the acting in turn, on a table that the caller made and keeps for the office handed in: check 2 is
-// known to pass, and so are 6 and 9 for the own office of the row. The program uses it; every other caller has step.
+// Inner to the step and the program: the reading and the acting in turn, on a table that the caller made and keeps for
+// the office handed in. Check 2 is known to pass, and so are 6 and 9 for the own office of the row. The program alone
+// calls it; every other caller has step.
 use crate::answers::Answer;
 use crate::answers::refuse;
 use crate::checks::ROOM;

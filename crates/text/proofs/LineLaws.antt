@@ -24,7 +24,7 @@ use Rattle.rules.specs.State.{State}
 use Rattle.rules.specs.Refusals.{Made, madeOf, fullRoom, readCheck, Event, aReport, aProposal, eventOf, readNumber}
 use Rattle.rules.specs.Refusals.{allBytes}
 use Rattle.rules.specs.Tables.{Table, TableResult, refusedTable, madeTable, readOf, stepTable}
-use Rattle.rules.specs.Turns.{formsOf, officeChecks, statesOf, turnChecks}
+use Rattle.rules.specs.Turns.{formsOf, officeChecks, statesOf, readOrder, turnChecks}
 use Rattle.rule_laws.proofs.Exits.{made-1}
 use Rattle.rule_laws.proofs.TableSteps.{read-refusal, step-unread}
 use Rattle.rule_laws.proofs.Turns.{turn-order}
@@ -155,7 +155,7 @@ step-ends office t b known n =
 -- bytes that pass 4 and 5 get neither of them
 step-passes : (office : ℕ) (t : Table) (b : List ℕ) → checkOf b ≡ 0
     → goesOn (stepTable office t b fullRoom .refusal) ≡ true
-unfolding goesOn turnChecks
+unfolding goesOn turnChecks readOrder
 step-passes office t b c =
     ap goesOn (turn-order office t b fullRoom)
     ∙ first-by (λ n. goesOn n ≡ true) refl (turnChecks office t b fullRoom) (every-map (λ k g a. g) each)
