@@ -1,5 +1,6 @@
 // The agreement test on the row of an office: agreement is inner to the layer of the step, and so is lacking, which
 // the question whom an office waits for asks too; the rest is inner to this crate.
+#![tactic(auto)]
 
 // Which office lacks what the test asks for.
 pub mod lacking;

@@ -11,7 +11,7 @@ use seats::SeatSet;
 use seats::offices::serves;
 
 // The start numbers of a view, 0 for an office without a seat in the members, and the largest of them.
-#[derive(Drop)]
+#[derive(Clone, Copy)]
 pub struct Laid {
     pub starts: [u32; 16],
     pub largest: u32,

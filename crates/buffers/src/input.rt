@@ -9,7 +9,7 @@ use crate::retry::tries_left;
 
 // Of the input buffer the bytes from `at` to `end` are still to be answered, of the output buffer the first `filled`
 // still to be written. `ended` says that the input has no more, `number` how many records were answered.
-#[derive(Drop)]
+#[derive(Clone, Copy)]
 pub struct Place {
     pub ended: bool,
     pub at: usize,
@@ -19,7 +19,7 @@ pub struct Place {
 }
 
 // What a read came to: so many bytes, the end of the input, or a failure for good.
-#[derive(Drop)]
+#[derive(Clone, Copy)]
 pub struct Read {
     pub got: usize,
     pub ended: bool,
@@ -27,7 +27,7 @@ pub struct Read {
 }
 
 // Where the program stands after a read, which may have failed.
-#[derive(Drop)]
+#[derive(Clone, Copy)]
 pub struct Grown {
     pub unread: bool,
     pub place: Place,

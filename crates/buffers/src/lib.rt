@@ -1,4 +1,5 @@
 // The two buffers of the program, inner to it: what is read and not answered yet, what is answered and not written.
+#![tactic(auto)]
 
 // Where the program stands, and the bytes read and not yet answered.
 pub mod input;

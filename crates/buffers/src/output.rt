@@ -20,7 +20,7 @@ pub fn due<'a>(output: &'a [u8], filled: usize) -> &'a [u8]
 }
 
 // What a write answered, and how many bytes it took.
-#[derive(Drop)]
+#[derive(Clone, Copy)]
 struct Wrote {
     answer: isize,
     took: usize,

@@ -1,4 +1,5 @@
 // The calls for C; include/room.h declares them.
+#![tactic(auto)]
 
 // The number that a call answers.
 mod number;

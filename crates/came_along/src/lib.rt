@@ -1,4 +1,6 @@
 // Who came along from the old view: the answer from a sheet of sync records, a view and one's own number.
+#![tactic(auto)]
+
 ghost use Rattle.std.specs.Prelude.{◌≡◌};
 ghost use Rattle.sheet.specs.Sheet.{records_on, came_along};
 ghost use Rattle.came_along.specs.Found.{found_answer, records_answer};

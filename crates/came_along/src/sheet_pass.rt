@@ -10,14 +10,14 @@ use seats::SeatSet;
 use seats::offices::office_of;
 
 // The members whose record has not come yet, and those whose record names the number.
-#[derive(Drop)]
+#[derive(Clone, Copy)]
 pub struct Found {
     pub missing: SeatSet,
     pub same: SeatSet,
 }
 
 // The number of the first bad record, and nobody; or 0, and what was found.
-#[derive(Drop)]
+#[derive(Clone, Copy)]
 pub struct Passed {
     pub refusal: u8,
     pub found: Found,

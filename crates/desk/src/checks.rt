@@ -12,7 +12,7 @@ use seats::SeatSet;
 use seats::offices::office_of;
 
 // The seat, the last start number, the last view number, whether a change is open. Any numbers may stand in it.
-#[derive(Drop)]
+#[derive(Clone, Copy)]
 pub struct Desk {
     pub seat: u32,
     pub start: u32,

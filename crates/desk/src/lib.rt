@@ -1,5 +1,6 @@
 // The desk's own end: a seat is made, takes start notices and views, and keeps the last start number, the last view
 // number and whether a change is open; after a notice it makes its sync record.
+#![tactic(auto)]
 
 // What a view's own numbers are asked by whoever reads one, a seat or a sheet.
 pub mod views;
@@ -22,7 +23,7 @@ pub use making::fresh_seat;
 pub use syncing::make_sync;
 
 // The refusal or 0, and the state that it leaves.
-#[derive(Drop)]
+#[derive(Clone, Copy)]
 pub struct Heard {
     pub refusal: u8,
     pub desk: Desk,

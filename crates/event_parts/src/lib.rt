@@ -1,5 +1,6 @@
 // The first parts of an event, on the row of an office; all of it is inner to the layer of the step. The laws say how
 // parts follow one another.
+#![tactic(auto)]
 
 // What is counted, and the larger number.
 mod numbers;

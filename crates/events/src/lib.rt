@@ -1,5 +1,7 @@
 // The events: what the bytes of a report or a proposal say, and every check that asks for no state. read_event reads
 // for an office: checks 1, 4, 5, 20, 6 to 10 and 19.
+#![tactic(auto)]
+
 ghost use Rattle.std.specs.Prelude.{◌≡◌};
 ghost use Rattle.records.specs.Layout.{report_mark, report_length, proposal_mark, proposal_length, room_of, check_own};
 ghost use Rattle.rules.specs.Refusals.{made_of, event_of, form_refusal};
@@ -17,7 +19,7 @@ use seats::SeatSet;
 mod form;
 
 // Which part of an event counts.
-#[derive(Drop)]
+#[derive(Clone, Copy)]
 pub enum What {
     Report,
     Proposal,
@@ -25,7 +27,7 @@ pub enum What {
 
 // A report or a proposal in a room. The part that `what` does not name is zeros where the event was read, and nobody
 // looks at it.
-#[derive(Drop)]
+#[derive(Clone, Copy)]
 pub struct Event {
     pub room: u8,
     pub what: What,
@@ -34,7 +36,7 @@ pub struct Event {
 }
 
 // The refusal or 0, and the event, that of zeros where it is refused.
-#[derive(Drop)]
+#[derive(Clone, Copy)]
 pub struct EventRead {
     pub refusal: u8,
     pub event: Event,

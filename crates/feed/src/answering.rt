@@ -16,7 +16,7 @@ use step::held::{step_held, view_number};
 use text::lines::{goes_on, roomless};
 
 // Whether the program goes on, whether a read failed, and where it then stands.
-#[derive(Drop)]
+#[derive(Clone, Copy)]
 pub struct Advanced {
     pub more: bool,
     pub unread: bool,

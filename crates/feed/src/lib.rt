@@ -1,4 +1,6 @@
 // The program: the records of standard input through the step, a line on standard output for each.
+#![tactic(auto)]
+
 ghost use Rattle.std.specs.Prelude.{◌≡◌, ◌-◌, ◌<◌, ◌≤◌, length};
 ghost use Rattle.laws.specs.Upd.{ifb};
 ghost use Rattle.row.specs.Table.{table_length};
@@ -18,7 +20,7 @@ mod answering;
 mod turning;
 
 // Where the turns end: `more` where they ran out.
-#[derive(Drop)]
+#[derive(Clone, Copy)]
 struct Ended {
     more: bool,
     failed: bool,
@@ -133,7 +135,7 @@ fn no_office() -> [u8; 8]
 }
 
 // The first byte, unless the input cannot be read; the office is 16, which is none, where the input has ended.
-#[derive(Drop)]
+#[derive(Clone, Copy)]
 struct First {
     unread: bool,
     office: u8,

@@ -12,7 +12,7 @@ use buffers::progress::emptied;
 
 // `sent` of the unwritten bytes were written; `failed` says that the others could not be, `unread` that the input
 // could not be read.
-#[derive(Drop)]
+#[derive(Clone, Copy)]
 pub struct Turned {
     pub more: bool,
     pub failed: bool,

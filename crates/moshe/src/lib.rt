@@ -1,1 +1,2 @@
 // Moshe's Figures 5 and 6 beside the rules: definitions and theorems only, in specs and proofs.
+#![tactic(auto)]

@@ -1,5 +1,6 @@
 // The proposals that an office makes, on its row; fast and slow_test are inner to the layer of the step, and the rest
 // to this crate.
+#![tactic(auto)]
 
 // The own proposal, made and stored.
 mod own_proposals;

@@ -11,7 +11,7 @@ use seats::offices::serves;
 
 // What the number asks of the stored proposals: whether there is a matching slow one above the own number, the largest
 // number of those, and the largest number of the net view's offices.
-#[derive(Drop)]
+#[derive(Clone, Copy)]
 pub struct Look {
     pub above: bool,
     pub joined: u32,

@@ -1,4 +1,5 @@
 // The six kinds of record as bytes: a reader and a writer for each.
+#![tactic(auto)]
 
 // Numbers as bytes, read and written.
 mod bytes;

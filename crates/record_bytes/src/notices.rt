@@ -10,7 +10,7 @@ use records::{Notice, layout, room_of};
 use seats::SeatSet;
 
 // What the reader answers: the number by checks 4 and 5, the room and the record, zeros where it is refused.
-#[derive(Drop)]
+#[derive(Clone, Copy)]
 pub struct NoticeRead {
     pub refusal: u8,
     pub room: u8,

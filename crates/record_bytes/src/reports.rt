@@ -11,7 +11,7 @@ use records::{Report, layout, room_of};
 use seats::SeatSet;
 
 // What the reader answers: the number by checks 4 and 5, the room and the record, zeros where it is refused.
-#[derive(Drop)]
+#[derive(Clone, Copy)]
 pub struct ReportRead {
     pub refusal: u8,
     pub room: u8,

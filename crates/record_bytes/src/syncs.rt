@@ -9,7 +9,7 @@ use crate::own_checks::{accepted, check_own};
 use records::{Sync, layout};
 
 // What the reader answers: the number by checks 4 and 5, and the record, zeros where it is refused.
-#[derive(Drop)]
+#[derive(Clone, Copy)]
 pub struct SyncRead {
     pub refusal: u8,
     pub sync: Sync,

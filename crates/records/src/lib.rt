@@ -1,5 +1,7 @@
 // The six records, as values, and one layout for reading and writing them. The kind of a proposal stays the raw byte
 // (1 fast, 2 slow), so that every byte string of the right length and mark is a record.
+#![tactic(auto)]
+
 use seats::SeatSet;
 
 // Each mark, length and place.
@@ -22,13 +24,13 @@ pub const FAST: u8 = 1;
 pub const SLOW: u8 = 2;
 
 // What an office is told of its seats: Moshe's notification of the network event mechanism.
-#[derive(Drop)]
+#[derive(Clone, Copy)]
 pub struct Report {
     pub joining: SeatSet,
     pub leaving: SeatSet,
 }
 
-#[derive(Drop)]
+#[derive(Clone, Copy)]
 pub struct Proposal {
     pub sender: u8,
     pub kind: u8,
@@ -39,13 +41,13 @@ pub struct Proposal {
 }
 
 // Moshe's startChange.
-#[derive(Drop)]
+#[derive(Clone, Copy)]
 pub struct Notice {
     pub start: u32,
     pub members: SeatSet,
 }
 
-#[derive(Drop)]
+#[derive(Clone, Copy)]
 pub struct View {
     pub number: u32,
     pub members: SeatSet,
@@ -54,7 +56,7 @@ pub struct View {
 
 // What a desk sends the other desks after a start notice: its seat, the notice's start number, the number of the view
 // that is ending.
-#[derive(Drop)]
+#[derive(Clone, Copy)]
 pub struct Sync {
     pub seat: u8,
     pub start: u32,
@@ -62,21 +64,21 @@ pub struct Sync {
 }
 
 // A high mark of an office's file: no number above it has left the office. One that is written has one number twice.
-#[derive(Drop)]
+#[derive(Clone, Copy)]
 pub struct High {
     pub number: u32,
     pub again: u32,
 }
 
 // What a mark calls for: the records that reach the server, and any other.
-#[derive(Drop)]
+#[derive(Clone, Copy)]
 pub enum RecordKind {
     Report,
     Proposal,
     Other,
 }
 
-#[derive(Drop)]
+#[derive(Clone, Copy)]
 pub struct Form {
     pub kind: RecordKind,
     pub length: usize,

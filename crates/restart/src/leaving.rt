@@ -18,7 +18,7 @@ use records::numbers::LIMIT;
 use records::{High, Notice, Proposal, View, layout, mark_of, reason};
 
 // The refusal, the length of the record in front and the last mark once it may leave; zeros with a refusal.
-#[derive(Drop)]
+#[derive(Clone, Copy)]
 pub struct DueMark {
     pub refusal: u8,
     pub length: usize,

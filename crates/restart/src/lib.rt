@@ -1,5 +1,6 @@
 // A server that loses its current: its file of high marks read, the state with which it begins again, and the mark
 // that goes into the file before a record leaves.
+#![tactic(auto)]
 
 // One pass over the file.
 mod marks;

@@ -16,7 +16,7 @@ pub const GAP: u32 = 1_000_000;
 const FILE_LIMIT: usize = 2_001 * layout::HIGH_LENGTH;
 
 // What a file answers: whether it is good, and its last whole mark; 0 where it is not, and where there is none.
-#[derive(Drop)]
+#[derive(Clone, Copy)]
 pub struct Marks {
     pub good: bool,
     pub last: u32,

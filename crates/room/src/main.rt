@@ -1,4 +1,6 @@
 // The program of document 01: a line for each record.
+#![tactic(auto)]
+
 fn main() {
     feed::run(false);
 }

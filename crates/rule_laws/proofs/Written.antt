@@ -87,14 +87,14 @@ NoView (view v) = ⊥
 
 pub data ViewLast : List Written → Type 0 where
   at_end : ViewLast []
-  a_view_lem : {v : View} → ViewLast (view v ∷ [])
-  a_notice_lem : {n : Notice} {ws : List Written} → ViewLast ws → ViewLast (notice n ∷ ws)
-  a_proposal_lem : {p : Proposal} {ws : List Written} → ViewLast ws → ViewLast (proposal p ∷ ws)
+  last_view : {v : View} → ViewLast (view v ∷ [])
+  last_notice : {n : Notice} {ws : List Written} → ViewLast ws → ViewLast (notice n ∷ ws)
+  last_proposal : {p : Proposal} {ws : List Written} → ViewLast ws → ViewLast (proposal p ∷ ws)
 
 last_append : (a : List Written) {b : List Written} → Every NoView a → ViewLast b → ViewLast (a ++ b)
 last_append [] none h = h
-last_append (notice n ∷ a) (more r e) h = a_notice_lem (last_append a e h)
-last_append (proposal p ∷ a) (more r e) h = a_proposal_lem (last_append a e h)
+last_append (notice n ∷ a) (more r e) h = last_notice (last_append a e h)
+last_append (proposal p ∷ a) (more r e) h = last_proposal (last_append a e h)
 last_append (view v ∷ a) (more r e) h = absurd r
 
 last_then : (s : State) (o : Outcome) (f : State → Outcome) → Every NoView o.written
@@ -110,7 +110,7 @@ ending = record {
   opening = λ s i. more {a = notice (notice_of (opened s))} tt none;
   fastly = λ s i. fast_every NoView s tt;
   slowly = λ s i. more {a = proposal (own_proposal Slow (slow_number s) s)} tt none;
-  concluding = λ s e. a_view_lem;
+  concluding = λ s e. last_view;
   chain = every_then;
   whole = λ s o h. rw append-nil at (last_append o.written h at_end);
   finish = last_then;
@@ -129,11 +129,12 @@ past_first v r n ws d f (inr m) = ap (λ (l : List Written). r ∷ l) (f m)
 pub view_all : (v : View) (n : ℕ) (ws : List Written) → ViewLast ws → Memᴰ (view v) (take n ws) → take n ws ≡ ws
 view_all v zero ws l m = absurd (Memᴰ.not-nil m)
 view_all v (suc n) [] l m = refl
-view_all v (suc n) (view x ∷ []) a_view_lem m = ap (λ (l : List Written). view x ∷ l) (take-nil n)
-view_all v (suc n) (notice x ∷ ws) (a_notice_lem l) m =
+view_all v (suc n) (view x ∷ []) last_view m = ap (λ (l : List Written). view x ∷ l) (take-nil n)
+view_all v (suc n) (view x ∷ (_ ∷ _)) l m = elim l [ ]
+view_all v (suc n) (notice x ∷ ws) (last_notice l) m =
     past_first v (notice x) n ws (λ e. let z : ◌≡◌ {A = ℕ} 0 1 = cc in omega arith) (view_all v n ws l)
     (Memᴰ.cases_cons m)
-view_all v (suc n) (proposal x ∷ ws) (a_proposal_lem l) m =
+view_all v (suc n) (proposal x ∷ ws) (last_proposal l) m =
     past_first v (proposal x) n ws (λ e. let z : ◌≡◌ {A = ℕ} 0 1 = cc in omega arith) (view_all v n ws l)
     (Memᴰ.cases_cons m)
 

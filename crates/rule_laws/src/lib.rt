@@ -1,1 +1,2 @@
 // The laws of the rules: theorems only, in proofs.
+#![tactic(auto)]

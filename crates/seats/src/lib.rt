@@ -1,4 +1,6 @@
 // Sets of seats. There are 64 seats, 0 to 63.
+#![tactic(auto)]
+
 ghost use Rattle.std.specs.Prelude.{◌≡◌, eqb};
 ghost use Rattle.seats.specs.Seats.{is_seat, contains_of, insert_of, remove_of, lowest_seat, union_of, without_of};
 
@@ -15,7 +17,7 @@ fn is_seat(seat: u8) -> bool
 }
 
 // Bit s of `bits` is set when seat s is in the set.
-#[derive(Drop)]
+#[derive(Clone, Copy)]
 pub struct SeatSet {
     pub bits: u64,
 }

@@ -9,7 +9,7 @@ use crate::SeatSet;
 const OFFICES: u8 = 16;
 
 // Bit o of `bits` is set when office o is in the set; `count` is the number of these offices.
-#[derive(Drop)]
+#[derive(Clone, Copy)]
 pub struct OfficeSet {
     pub bits: u16,
     pub count: u8,

@@ -1,1 +1,2 @@
 // The settling rule over the world of crate runs: statement in specs/, proof in proofs/. No code.
+#![tactic(auto)]

@@ -1,6 +1,8 @@
 // The acting call, on any event and any table of words, in place; and the step, which is the reading call and the
 // acting call in turn, on any bytes. act, step, fresh, current_view_number and Answer are open; held asks that its
 // caller knows of the table what check 2 asks and that its rooms are of the office, as the program does.
+#![tactic(auto)]
+
 ghost use Rattle.std.specs.Prelude.{◌≡◌, length};
 ghost use Rattle.records.specs.Layout.{room_of};
 ghost use Rattle.events.specs.Events.{event_held};

@@ -1,4 +1,6 @@
 // Lines as text, inner to the program: put into a buffer from a place on; each call answers the place after its text.
+#![tactic(auto)]
+
 ghost use Rattle.std.specs.Prelude.{◌∷◌, ◌+◌, ◌≤◌, length};
 ghost use Rattle.text.specs.Digits.{decimal};
 ghost use Rattle.text.specs.Lengths.{next_length, numbers_length, trace_length, line_length};

@@ -1,5 +1,7 @@
 // Whom an office waits for in a room, asked of any words, which are only read; waiting_for is open to every layer
 // above.
+#![tactic(auto)]
+
 ghost use Rattle.std.specs.Prelude.{◌≡◌, true, ◌<◌};
 ghost use Rattle.row.specs.Row.{Row, state_of, sound_row};
 ghost use Rattle.waiting.specs.Waiting.{for_nobody, waiting_for};

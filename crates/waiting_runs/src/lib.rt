@@ -1,1 +1,2 @@
 // Whom an office waits for along its runs: theorems only, in proofs.
+#![tactic(auto)]
