@@ -19,6 +19,7 @@ pub fn get16(a: u8, b: u8) -> u16
 }
 
 // The value of the mark that bytes start with; 0, which is no record's, where there are under two.
+#[tactic(auto, unfolding(crate::specs::Layout::mark_of))]
 pub fn mark_of(bytes: &[u8]) -> u16
     ensures { result ≡ mark_of bytes.now }
 {
@@ -29,6 +30,7 @@ pub fn mark_of(bytes: &[u8]) -> u16
 }
 
 // The room that bytes name, any byte; 0 where there is none.
+#[tactic(auto, unfolding(crate::specs::Layout::room_of))]
 pub fn room_of(bytes: &[u8]) -> u8
     ensures { result ≡ room_of bytes.now }
 {
