@@ -1,14 +1,14 @@
 -- For table and the crates above: the row of each room in a table of words, written anew or beside that; the states that
 -- the rows hold, and check 2 of all rooms.
 use mathlib.Core.Path.{◌≡◌, refl, sym, ap, ◌∙◌}
-use mathlib.Core.Bool.{Bool, true, false, ◌&&◌}
+use mathlib.Core.Bool.{true, false}
 use mathlib.Core.List.{List, [], ◌∷◌, ◌++◌, flatten}
-use Prim.Native.Nat.{ℕ, zero, suc, ◌+◌, ◌-◌, ◌*◌, ◌<◌, ◌≤◌}
+use Prim.Native.Nat.{ℕ, zero, suc, ◌+◌, ◌-◌, ◌*◌, ◌<◌}
 use native.Mathlib.Omega.{arith}
 use native.Mathlib.Decide.{ℕ_discrete}
 use lib.ListN.{length, take, drop, length-drop, take-append-drop, length-append}
 use lib.Dec.{eqb}
-use lib.Seq.{sets, length-sets, drop-drop, take_at, drop_at}
+use lib.Seq.{length-sets, drop-drop, take_at, drop_at}
 use borrow.Rule.Slice.PartMut.{put_mid}
 use borrow.Author.Tests.{eq-eqb, ne_eqb, eqb-true}
 use Rattle.laws.specs.Fin.{allb}
@@ -18,7 +18,6 @@ use Rattle.laws.proofs.Fin.{allb_out, allb_in, and_l, and_r, and_in}
 use Rattle.laws.proofs.Upd.{upd_same, upd_other}
 use Rattle.laws.proofs.Cuts.{put_part, part_self, part_length, part_written, part_beside}
 use Rattle.records.specs.Numbers.{room_count}
-use Rattle.rules.specs.State.{State}
 use Rattle.rules.specs.Refusals.{well_formed}
 use Rattle.rules.specs.Tables.{Table, well_table}
 use Rattle.rule_laws.proofs.Tables.{room_well, well_rooms}

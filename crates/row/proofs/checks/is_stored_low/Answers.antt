@@ -1,0 +1,10 @@
+use mathlib.Core.Path.{sym}
+use Rattle.row.proofs.Low.{digits_low}
+use Rattle.row.proofs.checks.is_stored_low.Goals as goal
+
+pub returns-then-stored_digits-le-LOW : goal.returns-then-stored_digits-le-LOW
+returns-then-stored_digits-le-LOW c =
+    sym (digits_low _ _ c.if-stored_digits-le-LOW.true c.stored_digits.ensures)
+
+pub returns : goal.returns
+returns c = c.stored_low.ensures
