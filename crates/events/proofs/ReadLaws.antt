@@ -11,10 +11,12 @@ use Rattle.records.specs.declared.Report.{Report}
 use Rattle.records.specs.declared.Proposal.{Proposal}
 use Rattle.records.specs.declared.Form.{Form}
 use Rattle.records.specs.Numbers.{room_above}
-use Rattle.records.specs.Layout.{report_mark, report_length, proposal_mark, proposal_length, decode_report, decode_proposal}
+use Rattle.records.specs.Layout.{report_mark, report_length, proposal_mark, proposal_length, decode_report}
+use Rattle.records.specs.Layout.{decode_proposal}
 use Rattle.records.specs.Layout.{room_of, form_of, check_for, check_of, check_own, sized}
 use Rattle.records.proofs.CheckLaws.{own_length, sized_all}
-use Rattle.rules.specs.Refusals.{Made, made_of, read_check, Event as RuleEvent, a_report, a_proposal, event_of, form_refusal}
+use Rattle.rules.specs.Refusals.{Made, made_of, read_check, Event as RuleEvent, a_report, a_proposal, event_of}
+use Rattle.rules.specs.Refusals.{form_refusal}
 use Rattle.rules.specs.Refusals.{read_number}
 use Rattle.rules.specs.Tables.{RoomEvent, read_of}
 use Rattle.rule_laws.proofs.Exits.{made_0, made_1, report_read, proposal_read}
