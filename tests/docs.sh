@@ -5,8 +5,8 @@
 #              NAME, X, M, F, LABEL and NN stand for any name; docs/X.md is looked for without backticks too
 #   links      what a relative link points at exists
 #   places     `name` (`crate/proofs/File`), also several names before one file: each is defined in that file
-#   names      a name in backticks that is written like a law or a definition is one; not in docs/MOSHE.md, which has
-#              the paper's names
+#   names      a name in backticks that is written like a law or a definition is one, or stands in C or in an example of the page; not in
+#              docs/MOSHE.md, which has the paper's names, nor in docs/landings/HOUSE.md, which has crates' old names
 #   functions  `crate::module::function` is there
 #   crates     docs/CRATES.md has the crates of crates.txt, under its headings, in its order, each with its modules
 #   counts     each row of the reading order in docs/PROOFS.md has the lines of its files, and the total is theirs
@@ -43,9 +43,10 @@ while IFS= read -r entry; do defined[$entry]=yes; done < <(
     awk '/^ *\/\// { next }
         match($0, /(fn|struct|enum|const|mod) [A-Za-z_0-9]+/) {
             word = substr($0, RSTART, RLENGTH); sub(/.* /, "", word); print FILENAME " " word }
-        /^pub use / { word = $0; sub(/.*::/, "", word); sub(/;.*/, "", word); print FILENAME " " word }' "${code[@]}"
+        /^pub use / { list = $0; sub(/.*::/, "", list); gsub(/[{},;]/, " ", list)
+            n = split(list, each, " "); for (i = 1; i <= n; i++) print FILENAME " " each[i] }' "${code[@]}"
 )
-cat "${theory[@]}" "${code[@]}" | grep -oE '[A-Za-z][A-Za-z0-9_′-]*' | sort -u >"$scratch/words"
+cat "${theory[@]}" "${code[@]}" include/*.h examples/*.[ch] tests/*.[ch] | grep -oE '[A-Za-z][A-Za-z0-9_′-]*' | sort -u >"$scratch/words"
 
 # joined FILE: a document without its indented commands, as one line: a citation may go on in the next
 joined() { grep -vE '^    ' "$1" | tr '\n' ' ' | sed -E 's/  +/ /g'; }
@@ -91,7 +92,7 @@ function_there() {
 }
 
 path_like='[A-Za-z0-9_.*-]+(/[A-Za-z0-9_.*-]+)+/?|\./.*|[A-Za-z0-9_*-]+\.(md|txt|rs|rt|antt|edit|sh|c|h|out)'
-name_like='[a-z][a-z0-9]*(-[a-z0-9]+)+|[a-z]+[0-9]?([A-Z][a-z0-9]*)+|[A-Z][a-z]+([A-Z][a-z]*)*'
+name_like='[a-z][a-z0-9]*([-_][a-z0-9]+)+|[a-z]+[0-9]?([A-Z][a-z0-9]*)+|[A-Z][a-z]+([A-Z][a-z]*)*'
 name='`[A-Za-z][A-Za-z0-9_′-]*`'
 place_like="($name(,| and|, and) )*$name \\(\`[a-z_]+/(specs|proofs|src)/[A-Za-z0-9_/.]+\`"
 
@@ -133,10 +134,11 @@ for doc in README.md docs/*.md docs/landings/HOUSE.md; do
     done < <(grep -oE "$place_like" "$scratch/joined" | sort -u)
     checked
 
-    if [ "$doc" != docs/MOSHE.md ]; then
+    if [[ $doc != docs/MOSHE.md && $doc != docs/landings/HOUSE.md ]]; then
         while IFS= read -r word; do
             [ -n "${there[$word]:-}" ] || fault "$doc: nothing is named $word"
-        done < <(grep -xE "$name_like" "$scratch/quoted" | comm -23 - "$scratch/words")
+        done < <(grep -xE "$name_like" "$scratch/quoted" |
+            comm -23 - <({ cat "$scratch/words" && grep -E '^    ' "$doc" | grep -oE '[A-Za-z][A-Za-z0-9_-]*'; } | sort -u))
         checked
     fi
 
@@ -187,7 +189,7 @@ said=$(joined docs/PROOFS.md | grep -oE '[0-9,]+ lines of definitions in all' | 
 checked
 
 # the claims: the fields of the records, but for those that are records of claims again; and the theorem of each
-sed -nE 's/^  pub ([a-z][A-Za-z0-9-]*) :.*/\1/p' crates/claims/specs/*.antt | sort -u >"$scratch/fields"
+sed -nE 's/^  pub ([a-z][A-Za-z0-9_-]*) :.*/\1/p' crates/claims/specs/*.antt | sort -u >"$scratch/fields"
 while IFS= read -r field; do
     grep -qF -- "\`$field\`" docs/PROOFS.md || fault "docs/PROOFS.md does not name the claim $field"
 done < <(sed -nE '/ : [A-Z][A-Za-z0-9]*$/d; s/^  pub ([a-z][A-Za-z0-9-]*) :.*/\1/p' crates/claims/specs/*.antt)
