@@ -5,8 +5,9 @@
 #              NAME, X, M, F, LABEL and NN stand for any name; docs/X.md is looked for without backticks too
 #   links      what a relative link points at exists
 #   places     `name` (`crate/proofs/File`), also several names before one file: each is defined in that file
-#   names      a name in backticks that is written like a law or a definition is one, or stands in C or in an example of the page; not in
-#              docs/MOSHE.md, which has the paper's names, nor in docs/landings/HOUSE.md, which has crates' old names
+#   names      a name in backticks that is written like a law or a definition is one, or stands in C or in an example
+#              of the page; not in docs/MOSHE.md, which has the paper's names, nor in docs/landings/HOUSE.md, which has
+#              the crates' old names
 #   functions  `crate::module::function` is there
 #   crates     docs/CRATES.md has the crates of crates.txt, under its headings, in its order, each with its modules
 #   counts     each row of the reading order in docs/PROOFS.md has the lines of its files, and the total is theirs
@@ -46,7 +47,8 @@ while IFS= read -r entry; do defined[$entry]=yes; done < <(
         /^pub use / { list = $0; sub(/.*::/, "", list); gsub(/[{},;]/, " ", list)
             n = split(list, each, " "); for (i = 1; i <= n; i++) print FILENAME " " each[i] }' "${code[@]}"
 )
-cat "${theory[@]}" "${code[@]}" include/*.h examples/*.[ch] tests/*.[ch] | grep -oE '[A-Za-z][A-Za-z0-9_′-]*' | sort -u >"$scratch/words"
+cat "${theory[@]}" "${code[@]}" include/*.h examples/*.[ch] tests/*.[ch] |
+    grep -oE '[A-Za-z][A-Za-z0-9_′-]*' | sort -u >"$scratch/words"
 
 # joined FILE: a document without its indented commands, as one line: a citation may go on in the next
 joined() { grep -vE '^    ' "$1" | tr '\n' ' ' | sed -E 's/  +/ /g'; }
@@ -138,7 +140,10 @@ for doc in README.md docs/*.md docs/landings/HOUSE.md; do
         while IFS= read -r word; do
             [ -n "${there[$word]:-}" ] || fault "$doc: nothing is named $word"
         done < <(grep -xE "$name_like" "$scratch/quoted" |
-            comm -23 - <({ cat "$scratch/words" && grep -E '^    ' "$doc" | grep -oE '[A-Za-z][A-Za-z0-9_-]*'; } | sort -u))
+            comm -23 - <({
+                cat "$scratch/words"
+                grep -E '^    ' "$doc" | grep -oE '[A-Za-z][A-Za-z0-9_-]*'
+            } | sort -u))
         checked
     fi
 
