@@ -27,7 +27,7 @@ use Rattle.rules.specs.Refusals.{step_of}
 use Rattle.rules.specs.Days.{computed, stated, further_computed, further_stated}
 use Rattle.rule_laws.proofs.Written.{ViewLast, SeatsOnly, RecordWithin}
 use Rattle.moshe.specs.Moshe.{Leaves, initially, nothing_sent, server_of, state_from}
-use Rattle.moshe.specs.Moshe.{fast_on_proposal, fast_onne, on_proposal01, onne01, Known, OwnFast, OthersKnown}
+use Rattle.moshe.specs.Moshe.{fast_on_proposal, fast_on_ne, on_proposal01, onne01, Known, OwnFast, OthersKnown}
 use Rattle.runs.specs.Office.{Input, LogEntry, answer_of, log_of, Before, CountedAt}
 use Rattle.row.specs.Table.{table_of, is_table}
 use Rattle.code_runs.specs.Words.{Handed, words_answer}
@@ -48,7 +48,7 @@ pub record Figures : Type 0 where
   -- Where slow agreement is not called for, the rules are the fast agreement algorithm as printed: for a report,
   pub fast_report : (s : State) (n : Report) → repeats s n ≡ false → let t = with_net s (net_after s.net.bits n) in
       (seated t ≡ true → slow_called (proposes_fast (opened t)).state ≡ false) → OthersKnown s
-      → Leaves s.own s.accepted (fast_onne (server_of s) n) (report_rule s n)
+      → Leaves s.own s.accepted (fast_on_ne (server_of s) n) (report_rule s n)
   -- and for a proposal in mode fast.
   pub fast_proposal : (s : State) (p : Proposal) → s.mode ≡ Fast
       → (p.members.bits ≡ s.net.bits → slow_called (received s p) ≡ false) → OwnFast s → OthersKnown s

@@ -28,10 +28,10 @@ use Rattle.rules.specs.Rules.{proposes_fast, received, in_slot}
 use Rattle.rules.specs.Rules.{slow_called, begins_in, proposes_slow, slow_test, is_none, agrees_kind, agrees_in, agreed}
 use Rattle.rules.specs.Rules.{start_of, view_of, concluded, agreement_test, tests, change_rule, report_rule, proposal_rule}
 use Rattle.moshe.specs.Moshe.{Leaves, Server, to_clients, to_servers, Handled, nothing_sent, then_run, local}
-use Rattle.moshe.specs.Moshe.{initially, props_of, used_props_of, update_nSView, any_local, start_fA, send_start_change}
-use Rattle.moshe.specs.Moshe.{proposal_fA, others, send_proposal, store_prop, use_props, send_view, deliver_view}
-use Rattle.moshe.specs.Moshe.{matches_nSView, on_proposal, starts_fA, onne, reached_fA, never_sA, no_sA}
-use Rattle.moshe.specs.Moshe.{fast_on_proposal, fast_onne, server_of, state_from, addressed, handled_of, needed}
+use Rattle.moshe.specs.Moshe.{initially, props_of, used_props_of, update_ns_view, any_local, start_fa, send_start_change}
+use Rattle.moshe.specs.Moshe.{proposal_fa, others, send_proposal, store_prop, use_props, send_view, deliver_view}
+use Rattle.moshe.specs.Moshe.{matches_ns_view, on_proposal, starts_fa, on_ne, reached_fa, never_sa, no_sa}
+use Rattle.moshe.specs.Moshe.{fast_on_proposal, fast_on_ne, server_of, state_from, addressed, handled_of, needed}
 use Rattle.moshe.specs.Moshe.{slow_proposal, reached, on_proposal01, onne01, IsFast, Known, OwnFast, OthersKnown}
 use Rattle.rule_laws.proofs.Parts.{proposed_reads, received_reads}
 use Rattle.rule_laws.proofs.Repeats.{repeat_rule, change_rule_lem}
@@ -88,25 +88,25 @@ module _ (t : State) where
   made : Proposal
   made = own_proposal Fast (next_number (opened t)) (opened t)
 
-  number_is : (start_fA (server_of t)).prop_num ≡ next_number (opened t)
-  unfolding start_fA props_of next_number opened
+  number_is : (start_fa (server_of t)).prop_num ≡ next_number (opened t)
+  unfolding start_fa props_of next_number opened
   number_is = plus _
 
-  made_is_prop : proposal_fA (start_fA (server_of t)) ≡ made
-  unfolding made proposal_fA start_fA used_props_of own_proposal opened
+  made_is_prop : proposal_fa (start_fa (server_of t)) ≡ made
+  unfolding made proposal_fa start_fa used_props_of own_proposal opened
   made_is_prop = rw (← number_is)
 
-  stored_is : store_prop (start_fA (server_of t)) made ≡ server_of (proposed Fast (next_number (opened t)) (opened t))
-  unfolding made store_prop start_fA proposed own_proposal opened
+  stored_is : store_prop (start_fa (server_of t)) made ≡ server_of (proposed Fast (next_number (opened t)) (opened t))
+  unfolding made store_prop start_fa proposed own_proposal opened
   stored_is = rw (← number_is)
 
-  others_are : others (start_fA (server_of t)) ≡ receives made
-  unfolding made others start_fA receives own_proposal opened
+  others_are : others (start_fa (server_of t)) ≡ receives made
+  unfolding made others start_fa receives own_proposal opened
   others_are = refl
 
-  sent_is : send_start_change (start_fA (server_of t)) ++ send_proposal (start_fA (server_of t))
+  sent_is : send_start_change (start_fa (server_of t)) ++ send_proposal (start_fa (server_of t))
       ≡ map (addressed t.own) ((opens t).written ++ (proposes_fast (opened t)).written)
-  unfolding made send_start_change send_proposal opens notice_of proposes_fast start_fA opened
+  unfolding made send_start_change send_proposal opens notice_of proposes_fast start_fa opened
   sent_is = rw (others_are, made_is_prop) (go (anyb 16 (receives made)))
     where
       go : (b : Bool) → (to_clients (notice (notice_of (opened t))) (local t.own t.net)
@@ -129,7 +129,7 @@ module _ (N : Server → Proposal → Bool) (S : Server → Proposal → Handled
 
   -- they do what document 01's tests do, on a state s
   SameTests : State → Proposal → Type 0
-  SameTests s p = matches_nSView N S R (server_of s) p ≡ handled_of s.own (tests s)
+  SameTests s p = matches_ns_view N S R (server_of s) p ≡ handled_of s.own (tests s)
 
   on_proposal_lem : (s : State) (p : Proposal)
       → (eqb p.members.bits s.net.bits ≡ true → SameTests (received s p) p)
@@ -144,7 +144,7 @@ module _ (N : Server → Proposal → Bool) (S : Server → Proposal → Handled
 
   -- the lines of the NE handler after the first; t has the new net view
   module _ (t : State) (h : SameTests (proposes_fast (opened t)).state (made t)) where
-    delivered : on_proposal N S R (start_fA (server_of t)) (proposal_fA (start_fA (server_of t))) ≡ handled_of t.own
+    delivered : on_proposal N S R (start_fa (server_of t)) (proposal_fa (start_fa (server_of t))) ≡ handled_of t.own
         (tests (proposes_fast (opened t)).state)
     unfolding SameTests on_proposal proposes_fast proposed opened
     delivered = rw (made_is_prop t, stored_is t, members) h
@@ -152,9 +152,9 @@ module _ (N : Server → Proposal → Bool) (S : Server → Proposal → Handled
         members : eqb (made t).members.bits t.net.bits ≡ true
         members = unfold made own_proposal in eq-eqb t.net.bits t.net.bits refl
 
-    starts_are : starts_fA N S R (start_fA (server_of t)) ≡ handled_of t.own
+    starts_are : starts_fa N S R (start_fa (server_of t)) ≡ handled_of t.own
         (and_then (opens t) (λ u. and_then (proposes_fast u) tests))
-    unfolding starts_fA then_run and_then opens
+    unfolding starts_fa then_run and_then opens
     starts_are = rw (
       delivered,
       sent_is t,
@@ -165,14 +165,14 @@ module _ (N : Server → Proposal → Bool) (S : Server → Proposal → Handled
   on_ne : (s : State) (n : Report)
       → (let t = with_net s (net_after s.net.bits n) in
       seated t ≡ true → SameTests (proposes_fast (opened t)).state (made t))
-      → onne N S R (server_of s) n ≡ handled_of s.own (change_rule (with_net s (net_after s.net.bits n)))
-  unfolding onne change_rule update_nSView net_after with_net any_local seated
+      → on_ne N S R (server_of s) n ≡ handled_of s.own (change_rule (with_net s (net_after s.net.bits n)))
+  unfolding on_ne change_rule update_ns_view net_after with_net any_local seated
   on_ne s n h = go (seated t) refl
     where
       t : State
       t = with_net s (net_after s.net.bits n)
 
-      go : (b : Bool) → seated t ≡ b → ifb b (starts_fA N S R (start_fA (server_of t))) (nothing_sent (server_of t))
+      go : (b : Bool) → seated t ≡ b → ifb b (starts_fa N S R (start_fa (server_of t))) (nothing_sent (server_of t))
           ≡ handled_of s.own (ifb b (and_then (opens t) (λ u. and_then (proposes_fast u) tests)) (nothing_written t))
       go true e = starts_are t (h e)
       go false e = refl
@@ -203,7 +203,7 @@ slow_is s p = go (slow_called s) refl
 
 tests_are : (s : State) (p : Proposal)
     → SameTests (needed s.accepted) (slow_proposal s.accepted) (reached s.accepted) s p
-unfolding SameTests matches_nSView tests reached
+unfolding SameTests matches_ns_view tests reached
 tests_are s p =
     let k = slow_keeps s in
     let v = server_of (slow_test s).state in
@@ -283,26 +283,26 @@ module _ (s : State) (m : s.mode ≡ Fast) (c : slow_called s ≡ false) (f : Ow
       if_fast true false true h = h refl refl
       if_fast true false false h = refl
 
-  fast_reached : agreed s ≡ reached_fA (server_of s)
-  unfolding reached_fA agreed is_none
+  fast_reached : agreed s ≡ reached_fa (server_of s)
+  unfolding reached_fa agreed is_none
   fast_reached = go s.mode m
     where
       go : (x : Mode) → x ≡ Fast
-          → (not (is_none x) && allb 16 (λ o. not (serves s.net.bits o) || agrees_in x s o)) ≡ reached_fA (server_of s)
+          → (not (is_none x) && allb 16 (λ o. not (serves s.net.bits o) || agrees_in x s o)) ≡ reached_fa (server_of s)
       go Fast e = allb_ext 16 _ _ agrees_fast
       go None e = let z : ◌≡◌ {A = ℕ} 0 1 = cc in absurd (omega arith)
       go Slow e = let z : ◌≡◌ {A = ℕ} 0 1 = cc in absurd (omega arith)
 
-  fast_tests : (p : Proposal) → SameTests never_sA no_sA reached_fA s p
-  unfolding SameTests matches_nSView then_run tests slow_test and_then
-  fast_tests p = rw c (deliver_is never_sA no_sA reached_fA s fast_reached)
+  fast_tests : (p : Proposal) → SameTests never_sa no_sa reached_fa s p
+  unfolding SameTests matches_ns_view then_run tests slow_test and_then
+  fast_tests p = rw c (deliver_is never_sa no_sa reached_fa s fast_reached)
 
 pub fast_proposal_figure : (s : State) (p : Proposal) → s.mode ≡ Fast
     → (p.members.bits ≡ s.net.bits → slow_called (received s p) ≡ false) → OwnFast s → OthersKnown s
     → (p.sender ≡ s.own → ⊥) → Known (keeping p)
     → Leaves s.own (received s p).accepted (fast_on_proposal (server_of s) p) (proposal_rule s p)
 fast_proposal_figure s p m c f k n h = leaves _ _ _ _ (proposal_keeps s p)
-    (on_proposal_lem never_sA no_sA reached_fA s p (λ e. unfold received in
+    (on_proposal_lem never_sa no_sa reached_fa s p (λ e. unfold received in
     fast_tests (received s p) m (c (eqb-true _ _ e)) own_fast known p))
   where
     at : (o : ℕ) → o < 16 → upd (stored_at s) p.sender (keeping p) o ≡ stored_at (received s p) o
@@ -321,10 +321,10 @@ fast_proposal_figure s p m c f k n h = leaves _ _ _ _ (proposal_keeps s p)
 pub fast_report_figure : (s : State) (n : Report) → repeats s n ≡ false → let t =
     with_net s (net_after s.net.bits n) in
     (seated t ≡ true → slow_called (proposes_fast (opened t)).state ≡ false) → OthersKnown s
-    → Leaves s.own s.accepted (fast_onne (server_of s) n) (report_rule s n)
+    → Leaves s.own s.accepted (fast_on_ne (server_of s) n) (report_rule s n)
 unfolding proposes_fast proposed opened with_net made own_proposal
 fast_report_figure s n d c k = rw (change_rule_lem s n d) (leaves _ _ _ _ (change_keeps t)
-    (on_ne never_sA no_sA reached_fA s n (λ e. fast_tests u refl (c e) own_fast known (made t))))
+    (on_ne never_sa no_sa reached_fa s n (λ e. fast_tests u refl (c e) own_fast known (made t))))
   where
     t : State
     t = with_net s (net_after s.net.bits n)

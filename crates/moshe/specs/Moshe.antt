@@ -94,8 +94,8 @@ unfoldable pub then_run : Handled → (Server → Handled) → Handled
 then_run r f = record { server = (f r.server).server; sent = r.sent ++ (f r.server).sent }
 
 -- Figure 6, NE handler, line 1: NSView
-unfoldable pub update_nSView : Server → NE → Server
-update_nSView v n =
+unfoldable pub update_ns_view : Server → NE → Server
+update_ns_view v n =
     record {
       me = v.me;
       running = v.running;
@@ -112,8 +112,8 @@ unfoldable pub any_local : Server → Bool
 any_local v = servers_of v.NSView v.me
 
 -- lines 3, 5 and 6: start_change_num, running, prop_num
-unfoldable pub start_fA : Server → Server
-start_fA v =
+unfoldable pub start_fa : Server → Server
+start_fa v =
     record {
       me = v.me;
       running = FA;
@@ -131,8 +131,8 @@ send_start_change v =
     to_clients (notice (record { start = v.start_change_num; members = v.NSView })) (local v.me v.NSView) ∷ []
 
 -- line 7: the proposal
-unfoldable pub proposal_fA : Server → Proposal
-proposal_fA v =
+unfoldable pub proposal_fa : Server → Proposal
+proposal_fa v =
     record {
       sender = v.me;
       kind = kind_of FA;
@@ -147,7 +147,7 @@ unfoldable pub others : Server → ℕ → Bool
 others v s = servers_of v.NSView s && not (eqb s v.me)
 
 unfoldable pub send_proposal : Server → List Message
-send_proposal v = ifb (anyb 16 (others v)) (to_servers (proposal (proposal_fA v)) (others v) ∷ []) []
+send_proposal v = ifb (anyb 16 (others v)) (to_servers (proposal (proposal_fa v)) (others v) ∷ []) []
 
 -- Figure 6, proposal handler, line 1: props[inProp.sender]
 unfoldable pub store_prop : Server → Proposal → Server
@@ -192,40 +192,40 @@ module _ (TestIfSAProposalNeeded : Server → Proposal → Bool) (SendSAProposal
   deliver_view v = ifb (TestIfAgreementReached v) (record { server = use_props v; sent = send_view (use_props v) })
       (nothing_sent v)
 
-  unfoldable pub matches_nSView : Server → Proposal → Handled
-  matches_nSView v inProp =
+  unfoldable pub matches_ns_view : Server → Proposal → Handled
+  matches_ns_view v inProp =
       then_run (ifb (TestIfSAProposalNeeded v inProp) (SendSAProposal v inProp) (nothing_sent v)) deliver_view
 
   unfoldable pub on_proposal : Server → Proposal → Handled
   on_proposal v inProp =
       let w = store_prop v inProp in
-      ifb (eqb inProp.members.bits w.NSView.bits) (matches_nSView w inProp) (nothing_sent w)
+      ifb (eqb inProp.members.bits w.NSView.bits) (matches_ns_view w inProp) (nothing_sent w)
 
   -- lines 4, 8 and 9: the own proposal goes through the other handler too
-  unfoldable pub starts_fA : Server → Handled
-  starts_fA v =
-      then_run (record { server = v; sent = send_start_change v ++ send_proposal v }) (λ w. on_proposal w (proposal_fA v))
+  unfoldable pub starts_fa : Server → Handled
+  starts_fa v =
+      then_run (record { server = v; sent = send_start_change v ++ send_proposal v }) (λ w. on_proposal w (proposal_fa v))
 
-  unfoldable pub onne : Server → NE → Handled
-  onne v n = let w = update_nSView v n in ifb (any_local w) (starts_fA (start_fA w)) (nothing_sent w)
+  unfoldable pub on_ne : Server → NE → Handled
+  on_ne v n = let w = update_ns_view v n in ifb (any_local w) (starts_fa (start_fa w)) (nothing_sent w)
 
 -- Figure 6, last lines: TestIfAgreementReached in the fast agreement algorithm, which has no TestIfSAProposalNeeded
-unfoldable pub reached_fA : Server → Bool
-reached_fA v =
+unfoldable pub reached_fa : Server → Bool
+reached_fa v =
     allb 16 (λ s. not (servers_of v.NSView s)
     || ((props_at v s).present && eqb (props_at v s).proposal.members.bits v.NSView.bits))
 
-abbrev pub never_sA : Server → Proposal → Bool
-never_sA v inProp = false
+abbrev pub never_sa : Server → Proposal → Bool
+never_sa v inProp = false
 
-abbrev pub no_sA : Server → Proposal → Handled
-no_sA v inProp = nothing_sent v
+abbrev pub no_sa : Server → Proposal → Handled
+no_sa v inProp = nothing_sent v
 
 abbrev pub fast_on_proposal : Server → Proposal → Handled
-fast_on_proposal = on_proposal never_sA no_sA reached_fA
+fast_on_proposal = on_proposal never_sa no_sa reached_fa
 
-abbrev pub fast_onne : Server → NE → Handled
-fast_onne = onne never_sA no_sA reached_fA
+abbrev pub fast_on_ne : Server → NE → Handled
+fast_on_ne = on_ne never_sa no_sa reached_fa
 
 -- the state of document 01 is these variables with the last accepted numbers beside them
 abbrev pub server_of : State → Server
@@ -285,7 +285,7 @@ module _ (accepted : List ℕ) where
   on_proposal01 = on_proposal needed slow_proposal reached
 
   abbrev pub onne01 : Server → NE → Handled
-  onne01 = onne needed slow_proposal reached
+  onne01 = on_ne needed slow_proposal reached
 
 -- where fast agreement is as printed: the own stored proposal is fast, and those of the others have kind 1 or 2
 abbrev pub IsFast : Slot → Type 0
