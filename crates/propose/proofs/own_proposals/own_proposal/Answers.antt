@@ -1,0 +1,14 @@
+use Rattle.row.proofs.Parts.{mode_word_lem}
+use Rattle.rules.specs.Rules.{own_proposal}
+use Rattle.propose.proofs.own_proposals.own_proposal.Goals as goal
+
+pub returns : goal.returns
+unfolding own_proposal
+returns c =
+    rw (
+      mode_word_lem _ c.requires.2,
+      c.used_within.ensures,
+      c.start.ensures,
+      c.own.ensures,
+      c.net-net.ensures,
+    )
