@@ -37,12 +37,17 @@ use Rattle.one_view.proofs.Held.{stays_left}
 use Rattle.one_view.proofs.OneView.{entry, tested, shown, turns, used_known, one_view}
 
 -- an event hands an office one thing
+one_turn_by : {w : World} {e d : WorldEvent} {o b : ℕ} {t u : Turn} → TurnAt w e o t → TurnAt w d b u → e ≡ d
+    → handed_at t ≡ handed_at u
+one_turn_by (on_report o r room) (on_report o' r' room') q = cc
+one_turn_by (on_delivery i o room x l f) (on_delivery i' o' room' y m g) q = cc
+one_turn_by (on_cut_report o r room n m) (on_cut_report o' r' room' n' m') q = cc
+one_turn_by (on_cut_delivery i o room n m x l f) (on_cut_delivery i' o' room' n' m' y k g) q = cc
+one_turn_by t u q = cc
+
 one_turn : {w : World} {e : WorldEvent} {o : ℕ} {t u : Turn} → TurnAt w e o t → TurnAt w e o u
     → handed_at t ≡ handed_at u
-one_turn (on_report o r room) (on_report o' r' room') = refl
-one_turn (on_delivery i o room x l f) (on_delivery i' o' room' y m g) = let z : x ≡ y = cc in cc
-one_turn (on_cut_report o r room n m) (on_cut_report o' r' room' n' m') = refl
-one_turn (on_cut_delivery i o room n m x l f) (on_cut_delivery i' o' room' n' m' y k g) = let z : x ≡ y = cc in cc
+one_turn t u = one_turn_by t u refl
 
 module _ (run : FreshRun) where
   -- its own proposal

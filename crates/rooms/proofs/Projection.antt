@@ -102,13 +102,13 @@ answered_as k m w o q r s here there =
     posted j (yes e) = room_same k m e (mail w.clock j q.written) ∙ ap (mail w.clock j) (here e)
     posted j (no n) = room_other k m n (mail w.clock j q.written) ∙ sym (ap (mail w.clock j) (there n))
 
-    log_of_lem : List Written → List SentRecord
-    log_of_lem ws = logged w.clock ws (of_room k (w.log o))
+    log_then : List Written → List SentRecord
+    log_then ws = logged w.clock ws (of_room k (w.log o))
 
     entered : Dec (m ≡ k)
-        → of_room k (logged_in w.clock m q.written (w.log o)) ≡ log_of_lem r.written
-    entered (yes e) = log_same w.clock k m e q.written (w.log o) ∙ ap log_of_lem (here e)
-    entered (no n) = log_other w.clock k m n q.written (w.log o) ∙ sym (ap log_of_lem (there n))
+        → of_room k (logged_in w.clock m q.written (w.log o)) ≡ log_then r.written
+    entered (yes e) = log_same w.clock k m e q.written (w.log o) ∙ ap log_then (here e)
+    entered (no n) = log_other w.clock k m n q.written (w.log o) ∙ sym (ap log_then (there n))
 
 -- an answer that changes nothing and writes nothing
 answered_none : (w : World) (o : ℕ) (r : Result) → r.state ≡ w.state o → r.written ≡ [] → answered w o r ≡ idle w

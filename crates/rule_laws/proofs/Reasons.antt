@@ -19,7 +19,7 @@ use Rattle.rules.specs.Refusals.{refusal_of, rule_of, Result, accepting, act_of,
 pub data Answer (n : ℕ) : Type 0 where
   accepts : n ≡ 0 → Answer n
   refuses : 1 ≤ n → n ≤ 13 → Answer n
-  uses_itself_lem : n ≡ 19 → Answer n
+  names_itself : n ≡ 19 → Answer n
   no_room : n ≡ 20 → Answer n
 
 pub reason : (n : ℕ) → leb 1 n && leb n 13 ≡ true → Answer n
@@ -40,7 +40,7 @@ form_answer : (office : ℕ) (e : Event) → Answer (form_refusal office e)
 form_answer office (a_report r) = accepts refl
 form_answer office (a_proposal p) = first_by Answer (accepts refl) (form_checks office p)
     (more (λ e. reason 6 refl) (more (λ e. reason 7 refl) (more (λ e. reason 8 refl) (more (λ e. reason 9 refl)
-    (more (λ e. reason 10 refl) (more (λ e. uses_itself_lem refl) none))))))
+    (more (λ e. reason 10 refl) (more (λ e. names_itself refl) none))))))
 
 pub reading_answer : (office found : ℕ) (e : Event) → Answer found → Answer (read_number office found e)
 unfolding read_number
@@ -52,7 +52,7 @@ unfolding proposal_checks
 event_answer s (a_report r) = accepts refl
 event_answer s (a_proposal p) = first_by Answer (accepts refl) (proposal_checks s p)
     (more (λ e. reason 6 refl) (more (λ e. reason 7 refl) (more (λ e. reason 8 refl) (more (λ e. reason 9 refl)
-    (more (λ e. reason 10 refl) (more (λ e. uses_itself_lem refl) (more (λ e. reason 11 refl)
+    (more (λ e. reason 10 refl) (more (λ e. names_itself refl) (more (λ e. reason 11 refl)
     (more (λ e. reason 12 refl) none))))))))
 
 pub act_answer : (s : State) (e : Event) → Answer (act_of s e).refusal

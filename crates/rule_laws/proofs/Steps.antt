@@ -15,7 +15,7 @@ use Rattle.laws.proofs.Checks.{first_none, no_reason}
 use Rattle.laws.proofs.Fin.{as-facts, or_cases, true_false}
 use Rattle.laws.proofs.Tab.{get_or_tab}
 use Rattle.seats.specs.Offices.{serves}
-use Rattle.records.specs.Numbers.{limit, within, room_count, room_above}
+use Rattle.records.specs.Numbers.{limit, room_count, room_above}
 use Rattle.records.specs.Layout.{check_of, room_of}
 use Rattle.records.proofs.NumberLaws.{stray_out, stray_in}
 use Rattle.records.specs.declared.Proposal.{Proposal}

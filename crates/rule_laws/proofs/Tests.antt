@@ -68,23 +68,23 @@ module _ (s : State) where
 
   -- why slow agreement is called for
   pub data Cause : Type 0 where
-    in_none_lem : s.mode ≡ None → Cause
+    in_mode_none : s.mode ≡ None → Cause
     heard_slow : s.mode ≡ Fast → (o : ℕ) → o < 16 → Matching o → (in_slot s o).kind ≡ slow → Cause
     is_used : (o : ℕ) → o < 16 → Matching o → used_for (in_slot s o) s.own ≡ s.number → Cause
-    above_own_lem : s.mode ≡ Slow → (o : ℕ) → o < 16 → Above o → Cause
+    heard_above : s.mode ≡ Slow → (o : ℕ) → o < 16 → Above o → Cause
 
   used_cause : anyb 16 (uses_own s) ≡ true → Cause
   used_cause e = let w = anyb_out 16 (uses_own s) e in let h = uses_out w.0 w.2 in
       is_used w.0 w.1 h.0 h.1
 
   cause_in : (m : Mode) → s.mode ≡ m → called_in m s ≡ true → Cause
-  cause_in None e c = in_none_lem e
+  cause_in None e c = in_mode_none e
   cause_in Fast e c =
       ⊎_elim (λ a. let w = anyb_out 16 (matching_slow s) a in let h = slow_out w.0 w.2 in
       heard_slow e w.0 w.1 h.0 h.1)
       used_cause (or_cases (anyb 16 (matching_slow s)) (anyb 16 (uses_own s)) c)
   cause_in Slow e c =
-      ⊎_elim (λ a. let w = anyb_out 16 (above_own s) a in above_own_lem e w.0 w.1 (above_out w.0 w.2))
+      ⊎_elim (λ a. let w = anyb_out 16 (above_own s) a in heard_above e w.0 w.1 (above_out w.0 w.2))
       used_cause (or_cases (anyb 16 (above_own s)) (anyb 16 (uses_own s)) c)
 
   pub called_out : slow_called s ≡ true → Cause

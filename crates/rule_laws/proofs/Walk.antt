@@ -120,7 +120,7 @@ module _ {A B P : Outcome → Type 0} (w : Tested A B P) where
 
 -- why nothing is done in a state
 pub data Idle (s : State) : Type 0 where
-  at_first_lem : Idle s
+  at_beginning : Idle s
   on_repeat : (r : Report) → repeats s r ≡ true → Idle s
   unseated : seated s ≡ false → Idle s
   other_members : (p : Proposal) → (p.members.bits ≡ s.net.bits → ⊥) → Idle s
@@ -200,7 +200,7 @@ module _ {Q P : State → Outcome → Type 0} (w : Walk Q P) where
   walk_proposal s p =
       let t = received s p in
       staged_proposal (walking t) s p (λ e. ending t (other_members p (rw (received_reads s p).net_is e)))
-      (λ e. w.idle t at_first_lem)
+      (λ e. w.idle t at_beginning)
 
   pub walk_event : (s : State) (e : Event) → P (arrived s e) (rule_of s e)
   walk_event s (a_report r) = walk_report s r

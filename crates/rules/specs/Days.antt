@@ -1,6 +1,6 @@
 -- The worked days at office 0, in room 0, that document 01 marks with *, N as change request 2 has it, and a day at the ceiling:
 -- what comes of each by the rules, and what the documents say.
-use Rattle.std.specs.Prelude.{List, [], ◌∷◌, ◌++◌, ℕ, ◌+◌, ◌-◌, length}
+use Rattle.std.specs.Prelude.{List, [], ◌∷◌, ◌++◌, ℕ, ◌+◌, ◌-◌}
 use Rattle.laws.specs.Upd.{upd}
 use Rattle.laws.specs.Fin.{allb, anyb, largest}
 use Rattle.laws.specs.Tab.{tab}

@@ -211,11 +211,11 @@ pub record Restarts (g : Offices) (me m : ℕ) (ws : List Written) : Type 0 wher
 
 -- slow agreement is called for
 pub data Calls (g : Offices) (me : ℕ) : Type 0 where
-  in_none_lem : g.mode me ≡ None → Calls g me
+  in_mode_none : g.mode me ≡ None → Calls g me
   heard_slow : g.mode me ≡ Fast → (o : ℕ) → o < 16 → (o ≡ me → ⊥) → Match g me o → (other g me o).kind ≡ slow
       → Calls g me
   is_used : (o : ℕ) → o < 16 → (o ≡ me → ⊥) → Match g me o → used_for (other g me o) me ≡ g.num me → Calls g me
-  above_own_lem : g.mode me ≡ Slow → (o : ℕ) → o < 16 → (o ≡ me → ⊥) → Match g me o → (other g me o).kind ≡ slow
+  heard_above : g.mode me ≡ Slow → (o : ℕ) → o < 16 → (o ≡ me → ⊥) → Match g me o → (other g me o).kind ≡ slow
       → g.num me < (other g me o).number → Calls g me
 
 -- slow agreement is not called for

@@ -33,7 +33,7 @@ use Rattle.runs.proofs.Arrays.{restarts_apart, restarts}
 use Rattle.runs.proofs.Links.{every_without}
 use Rattle.runs.proofs.StateArrays.{Sim}
 use Rattle.runs.proofs.RulesArrays.{Same, Moved}
-use Rattle.runs.proofs.Proposals.{EachProposal, a_notice_lem, a_proposal_lem, a_view_lem, each_map, MadeBetween}
+use Rattle.runs.proofs.Proposals.{EachProposal, if_notice, if_proposal, if_view, each_map, MadeBetween}
 use Rattle.runs.proofs.Proposals.{makes_event, step_names}
 use Rattle.runs.proofs.WorldArrays.{Seen, SeenAll, Sends, GoodAnswer, Linked, logged_every, seen_but}
 use Rattle.runs.proofs.WorldArrays.{seen_moved, seen_linked, seen_outside, below_sixteen}
@@ -60,9 +60,9 @@ TellsOf f p = (o : ℕ) → o < 16 → used_for p o ≤ f o
 
 each_tells : {f : ℕ → ℕ} (ws : List Written) → EachProposal (TellsOf f) ws → TellsUsed f ws
 each_tells [] none = tells_none
-each_tells (notice n ∷ ws) (more a_notice_lem e) = tells_notice (each_tells ws e)
-each_tells (view v ∷ ws) (more a_view_lem e) = tells_view (each_tells ws e)
-each_tells (proposal p ∷ ws) (more (a_proposal_lem h) e) = tells_proposal h (each_tells ws e)
+each_tells (notice n ∷ ws) (more if_notice e) = tells_notice (each_tells ws e)
+each_tells (view v ∷ ws) (more if_view e) = tells_view (each_tells ws e)
+each_tells (proposal p ∷ ws) (more (if_proposal h) e) = tells_proposal h (each_tells ws e)
 
 made_tells : (s t u : State) → ((o : ℕ) → o < 16 → used_at t o ≡ used_at s o) → (p : Proposal) → MadeBetween t u p
     → TellsOf (used_at s) p
@@ -199,28 +199,28 @@ module _ (F : ℕ → Bool) where
           sends = delivery_sends F w g i me room x l seen core q e (a.1.0, q.0, a.1.1);
         }
 
-    abbrev left_of_lem : Underway → List Written
-    left_of_lem b = take left (begun_writes w me b)
+    abbrev written_left : Underway → List Written
+    written_left b = take left (begun_writes w me b)
 
-    restarting : (b : Underway) → Among (cut me b left m) → Every (λ v. own_number v ≤ m) (left_of_lem b) → g.top me ≤ m
+    restarting : (b : Underway) → Among (cut me b left m) → Every (λ v. own_number v ≤ m) (written_left b) → g.top me ≤ m
         → (h : Offices) → h.num me ≡ g.num me → h.used me ≡ g.used me → h.top me ≡ g.top me
-        → Restarts h me m (left_of_lem b)
+        → Restarts h me m (written_left b)
     restarting b a e l h en eu et =
         let x = begun b a in
         record {
           climbs = rw (en, ← sim.num) (climbs_take left x.climbs);
-          tells = each_tells (left_of_lem b)
+          tells = each_tells (written_left b)
               (each_map (λ p t o lt. let y = t o lt in let z = sim.used o lt in let v = ap (λ f. f o) eu in
               omega arith) (every_take left x.tells));
-          above = rw et (top_le m (g.top me) (left_of_lem b) l e);
+          above = rw et (top_le m (g.top me) (written_left b) l e);
         }
 
     ends : (b : Underway) → Among (cut me b left m) → (v : World) → (h : Offices) → v.clock ≡ w.clock → Seen F me v h
-        → SeenAll F (answered v me (cut_answer w me b left m)) (restart h me m (left_of_lem b) w.clock)
+        → SeenAll F (answered v me (cut_answer w me b left m)) (restart h me m (written_left b) w.clock)
     unfolding cut_answer
     ends b a v h c s =
         let x = (begun b a).sends in
-        let out : Outcome = record { state = restarted me m; written = left_of_lem b } in
+        let out : Outcome = record { state = restarted me m; written = written_left b } in
         let r = restarted_reads me m in
         let ans : GoodAnswer F me out = record {
           is_good = record {
@@ -232,17 +232,17 @@ module _ (F : ℕ → Bool) where
           sends = every_take left x.valid;
           names = every_take left x.names;
         } in
-        seen_moved F v h (restart h me m (left_of_lem b) w.clock) me out s ans q
-        (subst (λ (t : ℕ). Moved t me h out (restart h me m (left_of_lem b) w.clock)) (sym c)
-        (moved_restart h me m (left_of_lem b) w.clock))
+        seen_moved F v h (restart h me m (written_left b) w.clock) me out s ans q
+        (subst (λ (t : ℕ). Moved t me h out (restart h me m (written_left b) w.clock)) (sym c)
+        (moved_restart h me m (written_left b) w.clock))
 
     -- what had left is not above the number at which it begins again
     left_below : (b : Underway) (v : World) → v.log me ≡ w.log me → v.clock ≡ w.clock
         → Every (λ x. own_number x.what ≤ m) ((answered v me (cut_answer w me b left m)).log me)
-        → Every (λ v. own_number v ≤ m) (left_of_lem b) × (g.top me ≤ m)
+        → Every (λ v. own_number v ≤ m) (written_left b) × (g.top me ≤ m)
     unfolding answered cut_answer
     left_below b v el ec e =
-        let x = logged_every (λ v. own_number v ≤ m) w.clock (left_of_lem b) (w.log me)
+        let x = logged_every (λ v. own_number v ≤ m) w.clock (written_left b) (w.log me)
         (rw (upd_same v.log me, el, ec) at e) in
         (x.0, seen.tops me q m x.1)
 
@@ -252,15 +252,15 @@ module _ (F : ℕ → Bool) where
     unfolding next taken_up with_link relink
     cut_inside nothing_begun a e =
         let y = left_below nothing_begun w refl refl e in (
-          restart g me m (left_of_lem nothing_begun) w.clock,
-          restarts (left_of_lem nothing_begun) q takes_nothing (restarting nothing_begun a y.0 y.1 g refl refl refl),
+          restart g me m (written_left nothing_begun) w.clock,
+          restarts (written_left nothing_begun) q takes_nothing (restarting nothing_begun a y.0 y.1 g refl refl refl),
           ends nothing_begun a w g refl (seen_but F w g me seen),
         )
     cut_inside (begun_report r room) a e =
         let b = begun_report r room in
         let y = left_below b w refl refl e in (
-          restart g me m (left_of_lem b) w.clock,
-          restarts (left_of_lem b) q takes_nothing (restarting b a y.0 y.1 g refl refl refl),
+          restart g me m (written_left b) w.clock,
+          restarts (written_left b) q takes_nothing (restarting b a y.0 y.1 g refl refl refl),
           ends b a w g refl (seen_but F w g me seen),
         )
     cut_inside (begun_delivery i room) a e = go (in_f? i a.1.0)
@@ -271,21 +271,21 @@ module _ (F : ℕ → Bool) where
         v : World
         v = with_link w i me (rest w g i me me seen)
 
-        y : Every (λ v. own_number v ≤ m) (left_of_lem b) × (g.top me ≤ m)
+        y : Every (λ v. own_number v ≤ m) (written_left b) × (g.top me ≤ m)
         y = left_below b v refl refl e
 
         go : InF F i ⊎ (InF F i → ⊥) → Acted w g (cut me b left m) (answered v me (cut_answer w me b left m))
         go (inl f) =
             let from : FromF F i me = (f, q.0, a.1.1) in
             let h = relink g i me (without 0 (g.link i me)) in (
-              restart h me m (left_of_lem b) w.clock,
-              restarts (left_of_lem b) q (takes_front from) (restarting b a y.0 y.1 h refl refl refl),
+              restart h me m (written_left b) w.clock,
+              restarts (written_left b) q (takes_front from) (restarting b a y.0 y.1 h refl refl refl),
               ends b a v h refl (seen_linked F w g h me i me (rest w g i me me seen) seen
                   (gone_from w g i me me seen from)),
             )
         go (inr out) = (
-          restart g me m (left_of_lem b) w.clock,
-          restarts (left_of_lem b) q takes_nothing (restarting b a y.0 y.1 g refl refl refl),
+          restart g me m (written_left b) w.clock,
+          restarts (written_left b) q takes_nothing (restarting b a y.0 y.1 g refl refl refl),
           ends b a v g refl (seen_linked F w g g me i me (rest w g i me me seen) seen
               (gone_outside w g i me me seen out)),
         )

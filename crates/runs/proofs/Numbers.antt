@@ -22,7 +22,7 @@ use Rattle.runs.proofs.Arrays.{Offices, mail_to, renet, propose, receive, conclu
 use Rattle.runs.proofs.Arrays.{Agreed, Arrives, FromF, Numbers, restart, top_after, Restarts}
 use Rattle.runs.proofs.Arrays.{Climbs, climbs_none, climbs_notice, climbs_view, climbs_proposal, TellsUsed}
 use Rattle.runs.proofs.Arrays.{tells_none, tells_notice, tells_view, tells_proposal, takes_nothing, takes_front}
-use Rattle.runs.proofs.Arrays.{SlowTest, not_called, called, not_agreed, agreed, Tests, both}
+use Rattle.runs.proofs.Arrays.{SlowTest, not_called, called, AgreementTest, not_agreed, agreed, Tests, both}
 use Rattle.runs.proofs.Arrays.{Happens, idles, refuses, repeated, loses, drops, leaves, reports, stores}
 use Rattle.runs.proofs.Arrays.{answers, restarts_apart, restarts}
 use Rattle.runs.proofs.Links.{every_without, rising_le, rising_low, rising_high, rising_snoc, rising_tail}
@@ -486,9 +486,12 @@ module _ (F : ℕ → Bool) where
   numbers_slow_test o n (not_called s) = n
   numbers_slow_test {t} {me} {g} o n (called p s k c) = numbers_propose g me Slow p t n o k
 
+  pub numbers_agreement_test : {t me : ℕ} {g h : Offices} → Numbers F g → AgreementTest t me g h → Numbers F h
+  numbers_agreement_test n (not_agreed _) = n
+  numbers_agreement_test {t} {me} {g} n (agreed a) = numbers_conclude g me t n a
+
   pub numbers_tests : {t me : ℕ} {g h : Offices} → InF F me → Numbers F g → Tests t me g h → Numbers F h
-  numbers_tests o n (both s (not_agreed _)) = numbers_slow_test o n s
-  numbers_tests {t} {me} o n (both {h = k} s (agreed a)) = numbers_conclude k me t (numbers_slow_test o n s) a
+  numbers_tests o n (both s a) = numbers_agreement_test (numbers_slow_test o n s) a
 
   -- every event keeps them
   pub numbers_acts : {w : World} {e : WorldEvent} {g h : Offices} → Numbers F g → Happens F w e g h → Numbers F h

@@ -33,9 +33,9 @@ use Rattle.rule_laws.proofs.Walk.{Walk, Tested, staged_report, staged_proposal, 
 
 -- P holds of a record if it is a proposal, and of each proposal written
 pub data IfProposal (P : Proposal → Type 0) : Written → Type 0 where
-  a_notice_lem : {n : Notice} → IfProposal P (notice n)
-  a_proposal_lem : {p : Proposal} → P p → IfProposal P (proposal p)
-  a_view_lem : {v : View} → IfProposal P (view v)
+  if_notice : {n : Notice} → IfProposal P (notice n)
+  if_proposal : {p : Proposal} → P p → IfProposal P (proposal p)
+  if_view : {v : View} → IfProposal P (view v)
 
 abbrev pub EachProposal : (Proposal → Type 0) → List Written → Type 0
 EachProposal P = Every (IfProposal P)
@@ -45,21 +45,21 @@ pub each_map : {P Q : Proposal → Type 0} {ws : List Written} → ((p : Proposa
 each_map {P} {Q} f = every_map one
   where
     one : (w : Written) → IfProposal P w → IfProposal Q w
-    one (notice n) a_notice_lem = a_notice_lem
-    one (proposal p) (a_proposal_lem h) = a_proposal_lem (f p h)
-    one (view v) a_view_lem = a_view_lem
+    one (notice n) if_notice = if_notice
+    one (proposal p) (if_proposal h) = if_proposal (f p h)
+    one (view v) if_view = if_view
 
 pub each_in : {P : Proposal → Type 0} (ws : List Written) → ((p : Proposal) → Memᴰ (proposal p) ws → P p)
     → EachProposal P ws
 each_in {P} ws h = every_in ws one
   where
     one : (w : Written) → Memᴰ w ws → IfProposal P w
-    one (notice n) m = a_notice_lem
-    one (proposal p) m = a_proposal_lem (h p m)
-    one (view v) m = a_view_lem
+    one (notice n) m = if_notice
+    one (proposal p) m = if_proposal (h p m)
+    one (view v) m = if_view
 
 pub is_proposal : {P : Proposal → Type 0} {p : Proposal} → IfProposal P (proposal p) → P p
-is_proposal (a_proposal_lem h) = h
+is_proposal (if_proposal h) = h
 
 -- a round is open only after a start number was given out
 abbrev pub Begun : State → Type 0
@@ -212,7 +212,7 @@ module _ (s : State) where
           number = omega arith;
           start = omega arith;
           begun = λ h q. omega arith;
-          sends = more a_notice_lem none;
+          sends = more if_notice none;
         };
         same_used = r.used_is;
       }
@@ -226,7 +226,7 @@ module _ (s : State) where
       makes_propose Fast (next_number s) busy (next_above s) given _
       (if_cases (EachProposal (MadeBetween s (proposed Fast (next_number s) s)))
       (has_recipient (own_proposal Fast (next_number s) s)) _ _
-      (λ e. more (a_proposal_lem (made_between Fast (next_number s) busy (next_above s) given)) none)
+      (λ e. more (if_proposal (made_between Fast (next_number s) busy (next_above s) given)) none)
       (λ e. none))
 
   makes_slow : ProposesSlow s → MakesFirst s (proposes_slow s)
@@ -234,7 +234,7 @@ module _ (s : State) where
   makes_slow q =
       let busy : Slow ≡ None → ⊥ = λ e. let z : ◌≡◌ {A = ℕ} 0 1 = cc in omega arith in
       makes_propose Slow (slow_number s) busy (slow_above s) (given q) _
-      (more (a_proposal_lem (made_between Slow (slow_number s) busy (slow_above s) (given q))) none)
+      (more (if_proposal (made_between Slow (slow_number s) busy (slow_above s) (given q))) none)
     where
       given : ProposesSlow s → Begun s → 1 ≤ s.start
       given (after_opening u n c e) h = rw e (let a = (opened_reads u).start_is in omega arith)
@@ -251,7 +251,7 @@ module _ (s : State) where
         number = omega arith;
         start = omega arith;
         begun = λ h q. absurd (q r.mode_is);
-        sends = more a_view_lem none;
+        sends = more if_view none;
       }
 
 making : Walk MakesFirst Makes

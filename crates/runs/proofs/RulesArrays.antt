@@ -19,7 +19,7 @@ use Rattle.rules.specs.Rules.{has_recipient, own_proposal, proposed, opens, in_s
 use Rattle.rules.specs.Rules.{slow_called, slow_number, next_number, begins_in, proposes_slow, proposes_fast}
 use Rattle.rules.specs.Leaving.{own_number}
 use Rattle.rule_laws.proofs.Parts.{made_is, made_used}
-use Rattle.rule_laws.proofs.Tests.{Matching, Above, Cause, in_none_lem, heard_slow, is_used, above_own_lem, NotCalled}
+use Rattle.rule_laws.proofs.Tests.{Matching, Above, Cause, in_mode_none, heard_slow, is_used, heard_above, NotCalled}
 use Rattle.rule_laws.proofs.Tests.{NumberFrom, joins, starts, Agreeing, AllAgree, called_out, not_called, slow_number_lem}
 use Rattle.rule_laws.proofs.Tests.{slow_above, next_above, agreed_out, agreed_in}
 use Rattle.rule_laws.proofs.Walk.{slow_round, concludes, Tested}
@@ -219,13 +219,13 @@ module _ (t me : ℕ) (s : State) (g : Offices) (h : Sim s g me) where
       record { matches = from_match o j.0 j.1 j.2; is_slow = kind_is o j.0 ∙ j.3; above = omega arith }
 
   to_calls : Cause s → Calls g me
-  to_calls (in_none_lem e) = off.Calls.in_none_lem (sym h.mode ∙ e)
+  to_calls (in_mode_none e) = off.Calls.in_mode_none (sym h.mode ∙ e)
   to_calls (heard_slow e o lt m k) = let w = to_match o lt m in
       off.Calls.heard_slow (sym h.mode ∙ e) o lt w.0 w.1 (sym (kind_is o lt) ∙ k)
   to_calls (is_used o lt m e) = let w = to_match o lt m in
       off.Calls.is_used o lt w.0 w.1 (sym (used_is o lt) ∙ e ∙ h.num)
-  to_calls (above_own_lem e o lt a) = let j = to_joinable o lt a in
-      off.Calls.above_own_lem (sym h.mode ∙ e) o lt j.1 j.2 j.3 j.4
+  to_calls (heard_above e o lt a) = let j = to_joinable o lt a in
+      off.Calls.heard_above (sym h.mode ∙ e) o lt j.1 j.2 j.3 j.4
 
   to_silent : NotCalled s → Silent g me
   to_silent c = record {

@@ -21,7 +21,7 @@ use Rattle.laws.proofs.Grid.{upd2_cases}
 use Rattle.runs.proofs.StateArrays.{Sim}
 use Rattle.runs.proofs.RulesArrays.{Same, Moved, views_logged}
 use Rattle.runs.proofs.Valid.{Valid}
-use Rattle.runs.proofs.Proposals.{EachProposal, each_map, a_notice_lem, a_proposal_lem, a_view_lem, Begun}
+use Rattle.runs.proofs.Proposals.{EachProposal, each_map, if_notice, if_proposal, if_view, Begun}
 
 -- an office's state, as it is in every run from a fresh one
 pub record Good (s : State) : Type 0 where
@@ -33,9 +33,9 @@ pub record Good (s : State) : Type 0 where
 pub mail_all : (P : Proposal → Type 0) (t j : ℕ) (ws : List Written) → EachProposal (λ p. receives p j ≡ true → P p) ws
     → Every (λ x. P x.proposal) (mail t j ws)
 mail_all P t j [] none = none
-mail_all P t j (notice n ∷ ws) (more a_notice_lem e) = mail_all P t j ws e
-mail_all P t j (view v ∷ ws) (more a_view_lem e) = mail_all P t j ws e
-mail_all P t j (proposal p ∷ ws) (more (a_proposal_lem h) e) =
+mail_all P t j (notice n ∷ ws) (more if_notice e) = mail_all P t j ws e
+mail_all P t j (view v ∷ ws) (more if_view e) = mail_all P t j ws e
+mail_all P t j (proposal p ∷ ws) (more (if_proposal h) e) =
     let r = mail_all P t j ws e in
     if_cases (Every (λ x. P x.proposal)) (receives p j) _ _ (λ b. more (h b) r) (λ b. r)
 

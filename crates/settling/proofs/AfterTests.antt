@@ -21,7 +21,7 @@ use Rattle.laws.proofs.Grid.{upd2_same, upd2_other}
 use Rattle.runs.proofs.Links.{snoc_not_nil, snoc_tail}
 use Rattle.runs.proofs.Arrays.{restart, Offices, mail_to, renet, propose, receive, conclude, relink, Match, other}
 use Rattle.runs.proofs.Arrays.{Proposes, Silent, Chosen, joins, starts, Agreed}
-use Rattle.runs.proofs.Arrays.{SlowTest, not_called, called, not_agreed, agreed, Tests, both, Arrives}
+use Rattle.runs.proofs.Arrays.{SlowTest, not_called, called, AgreementTest, not_agreed, agreed, Tests, both, Arrives}
 use Rattle.settling.specs.Statement.{OfA}
 use Rattle.settling.proofs.Invariants.{Done, NoLast, Reported, Losing, HappensFairly, fair_idle, fair_loss}
 use Rattle.settling.proofs.Invariants.{fair_cut, fair_leave, fair_report, fair_store, fair_answer}
@@ -90,7 +90,7 @@ module _ (A : ℕ) (last : ℕ → ℕ) (u : ℕ) where
   like_tested : {g h : Offices} {i : ℕ} → Like g h i → AfterTests g i → AfterTests h i
   like_tested k s =
       record {
-        in_none_lem = λ e o l n m. s.in_none_lem (sym k.of_mode ∙ e) o l n (like_match k o m);
+        in_mode_none = λ e o l n m. s.in_mode_none (sym k.of_mode ∙ e) o l n (like_match k o m);
         quiet = λ b. like_silent k (s.quiet (λ e. b (k.of_mode ∙ e)));
         not_agreed = λ a. s.not_agreed (like_agreed k a);
       }
@@ -151,9 +151,12 @@ module _ (A : ℕ) (last : ℕ → ℕ) (u : ℕ) where
   slow_others {t} {me} {g} (not_called s) f = f
   slow_others {t} {me} {g} (called p c q r) f = propose_others g me Slow p t f
 
+  agreement_others : {t me : ℕ} {g h : Offices} → AgreementTest t me g h → Others g me → Others h me
+  agreement_others (not_agreed n) f = f
+  agreement_others {t} {me} {g} (agreed a) f = conclude_others g me t f
+
   tests_others : {t me : ℕ} {g h : Offices} → Tests t me g h → Others g me → Others h me
-  tests_others (both s (not_agreed n)) f = slow_others s f
-  tests_others {t} {me} (both {h = k} s (agreed a)) f = conclude_others k me t (slow_others s f)
+  tests_others (both s a) f = agreement_others a (slow_others s f)
 
   -- what is stored for another office has a seat of that office
   abbrev Seated : Offices → ℕ → Type 0
@@ -226,7 +229,7 @@ module _ (A : ℕ) (last : ℕ → ℕ) (u : ℕ) where
   unfolding conclude
   conclude_tested g me t f =
       record {
-        in_none_lem =
+        in_mode_none =
             λ x o l n m.
             let e = ap (λ s. s o)
             (upd_same g.stored me (λ o. ifb (serves (g.net me) o) nothing (g.stored me o))) in
@@ -248,12 +251,14 @@ module _ (A : ℕ) (last : ℕ → ℕ) (u : ℕ) where
           (λ s q r. let y = f o l n q in let z : ◌≡◌ {A = ℕ} 0 1 = cc in omega arith)
 
   -- after both tests
+  agreement_tested : {t me : ℕ} {g h : Offices} → Silent g me → Seated g me → AgreementTest t me g h → AfterTests h me
+  agreement_tested q f (not_agreed n) =
+      record { in_mode_none = λ m. absurd (q.busy m); quiet = λ b. q; not_agreed = n }
+  agreement_tested {t} {me} {g} q f (agreed b) = conclude_tested g me t f
+
   tests_tested : {t me : ℕ} {g h : Offices} → Core A last u g → OfA A me → last me < u → Tests t me g h
       → AfterTests h me
-  tests_tested c a e (both s (not_agreed n)) =
-      let q = slow_silent c a s e in
-      record { in_none_lem = λ m. absurd (q.busy m); quiet = λ b. q; not_agreed = n }
-  tests_tested {t} {me} c a e (both {h = k} s (agreed b)) = conclude_tested k me t (slow_seated c a s)
+  tests_tested c a e (both s b) = agreement_tested (slow_silent c a s e) (slow_seated c a s) b
 
   -- a used number of i's last proposal that is j's current number has not arrived
   abbrev Late : Offices → ℕ → ℕ → Type 0
@@ -386,11 +391,15 @@ module _ (A : ℕ) (last : ℕ → ℕ) (u : ℕ) where
       propose_late g me Slow p t q (λ e. c.book.net_a me (a, e)) (λ i n d. c.book.made_used i me d a n)
       (λ i j n. f i j)
 
+  agreement_late : {t me : ℕ} {g h : Offices} → AgreementTest t me g h → ((i j : ℕ) → Late g i j)
+      → (i j : ℕ) → Late h i j
+  agreement_late (not_agreed n) f = f
+  agreement_late {t} {me} {g} (agreed b) f = conclude_late g me t f
+
   tests_late : {t me : ℕ} {g h : Offices} → Core A last u g → OfA A me → Tests t me g h
       → ((i j : ℕ) → (j ≡ me → ⊥) → Late g i j)
       → (Silent g me → (i j : ℕ) → Late g i j) → (i j : ℕ) → Late h i j
-  tests_late c a (both s (not_agreed n)) f w = slow_late c a s f w
-  tests_late {t} {me} c a (both {h = k} s (agreed b)) f w = conclude_late k me t (slow_late c a s f w)
+  tests_late c a (both s b) f w = agreement_late b (slow_late c a s f w)
 
   -- the invariant after an event at office me
   at_office : {g : Offices} (me : ℕ) → Core A last u g → Others g me → (Done A last u me → AfterTests g me)

@@ -10,7 +10,7 @@ use Rattle.rules.specs.State.{Mode, Fast, Slow, slow}
 use Rattle.runs.specs.World.{Item, Underway, without}
 use Rattle.runs.proofs.Arrays.{Numbers, restart, TakesUp, takes_nothing, takes_front, Offices, Arrives, Proposes}
 use Rattle.runs.proofs.Arrays.{renet, propose, receive, conclude, relink}
-use Rattle.runs.proofs.Arrays.{SlowTest, not_called, called, not_agreed, agreed, Tests, both}
+use Rattle.runs.proofs.Arrays.{SlowTest, not_called, called, AgreementTest, not_agreed, agreed, Tests, both}
 use Rattle.runs.proofs.Numbers.{numbers_renet, numbers_relink, numbers_receive, numbers_propose, numbers_conclude}
 use Rattle.runs.proofs.Numbers.{numbers_restart}
 use Rattle.settling.specs.Statement.{OfA}
@@ -108,11 +108,14 @@ module _ (A : ℕ) (last : ℕ → ℕ) where
   core_slow_test c o (not_called s) = c
   core_slow_test c o (called p s k n) = core_propose c (calling c o k) (λ i a m l. l)
 
+  core_agreement_test : {t me : ℕ} {g h : Offices} → Core A last (t + 1) g → OfA A me → AgreementTest t me g h
+      → Core A last (t + 1) h
+  core_agreement_test c o (not_agreed n) = c
+  core_agreement_test {t} c o (agreed a) = core_conclude t c (record { at_office = o; all_agree = a })
+
   pub core_tests : {t me : ℕ} {g h : Offices} → Core A last (t + 1) g → OfA A me → Tests t me g h
       → Core A last (t + 1) h
-  core_tests c o (both s (not_agreed n)) = core_slow_test c o s
-  core_tests {t} c o (both s (agreed a)) =
-      core_conclude t (core_slow_test c o s) (record { at_office = o; all_agree = a })
+  core_tests c o (both s a) = core_agreement_test (core_slow_test c o s) o a
 
   -- where no last report has come, only the numbers are to be kept
   pub core_none : (t : ℕ) (g : Offices) → Numbers (serves A) g → ((i : ℕ) → Done A last t i → ⊥) → Core A last t g

@@ -20,7 +20,7 @@ use Rattle.rules.specs.Refusals.{Result}
 use Rattle.runs.specs.World.{Item, World, Underway, WorldEvent, report, delivery, loss, cut, next, Gives, to_report}
 use Rattle.runs.specs.World.{Among}
 use Rattle.runs.proofs.Arrays.{Offices, Barred, renet, propose, conclude, Arrives, Apart, SlowTest, not_called, called}
-use Rattle.runs.proofs.Arrays.{not_agreed, agreed, Tests, both, Happens, idles, refuses, repeated, loses, drops}
+use Rattle.runs.proofs.Arrays.{AgreementTest, not_agreed, agreed, Tests, both, Happens, idles, refuses, repeated, loses, drops}
 use Rattle.runs.proofs.Arrays.{leaves, reports, stores, answers, restarts_apart, restarts, takes_nothing, takes_front}
 use Rattle.runs.proofs.WorldArrays.{SeenAll, below_sixteen}
 use Rattle.settling.specs.Statement.{between, delivery_one, OfA}
@@ -33,10 +33,13 @@ unfolding propose
 slow_net (not_called s) = refl
 slow_net (called p c k n) = refl
 
-tests_net : {t me : ℕ} {g h : Offices} → Tests t me g h → h.net ≡ g.net
+agreement_net : {t me : ℕ} {g h : Offices} → AgreementTest t me g h → h.net ≡ g.net
 unfolding conclude
-tests_net (both s (not_agreed n)) = slow_net s
-tests_net (both s (agreed a)) = slow_net s
+agreement_net (not_agreed n) = refl
+agreement_net (agreed a) = refl
+
+tests_net : {t me : ℕ} {g h : Offices} → Tests t me g h → h.net ≡ g.net
+tests_net (both s a) = agreement_net a ∙ slow_net s
 
 renet_net : (g : Offices) (me x : ℕ) → (renet g me x).net me ≡ x
 unfolding renet
@@ -85,7 +88,7 @@ module _ (A : ℕ) (last : ℕ → ℕ) where
     pub is_last : (i : ℕ) → OfA A i → last i ≡ w.clock → (r : Report) × (room : ℕ) × (e ≡ report i r room)
         × Renewed w e i
     pub final : (i : ℕ) → OfA A i → last i ≡ w.clock → ((next w e).state i).net.bits ≡ A
-    pub cuts_first_lem : (o : ℕ) (b : Underway) (left m : ℕ) → OfA A o → e ≡ cut o b left m → (i : ℕ) → OfA A i
+    pub cuts_before : (o : ℕ) (b : Underway) (left m : ℕ) → OfA A o → e ≡ cut o b left m → (i : ℕ) → OfA A i
         → w.clock < last i
 
   not_barred : {w : World} {e : WorldEvent} {i : ℕ} {r : Result} → Fair w e → OfA A i → Gives w e i r → Barred r → ⊥
@@ -191,7 +194,7 @@ module _ (A : ℕ) (last : ℕ → ℕ) where
         fair_loss i o 0 (due_at_cut w o b left k f)
         (record { from_office = from.0; to_office = from.1; others = from.2; early = λ oj. absurd (out oj) })
     fair_acts m f (restarts {me = me} {left = left} {m = k} {b = b} ws o u r) v =
-        fair_cut me k ws o (f.cuts_first me b left k o refl) u r
+        fair_cut me k ws o (f.cuts_before me b left k o refl) u r
     fair_acts {h = h} m f (leaves {me = me} {room = room} {r = r} x o c b) v =
         fair_leave me x (none_due w me r room f not_last) o
         (f.not_after me o (renewed (report me r room) (renet g me x) v me o (λ z. c (sym (renet_net g me x) ∙ z))))

@@ -19,7 +19,7 @@ use Rattle.settling.specs.Statement.{OfA}
 
 -- what the two tests leave behind at office i
 pub record AfterTests (g : Offices) (i : ℕ) : Type 0 where
-  pub in_none_lem : g.mode i ≡ None → (o : ℕ) → o < 16 → (o ≡ i → ⊥) → Match g i o → ⊥
+  pub in_mode_none : g.mode i ≡ None → (o : ℕ) → o < 16 → (o ≡ i → ⊥) → Match g i o → ⊥
   pub quiet : (g.mode i ≡ None → ⊥) → Silent g i
   pub not_agreed : Agreed g i → ⊥
 

@@ -9,7 +9,7 @@ use Rattle.laws.proofs.Upd.{upd_same, upd_other}
 use Rattle.records.specs.declared.Proposal.{Proposal}
 use Rattle.rules.specs.State.{Mode, None, Fast, Slow, fast, slow, kind_of, keeping, used_for}
 use Rattle.runs.specs.World.{Item}
-use Rattle.runs.proofs.Arrays.{Offices, receive, Match, other, Calls, in_none_lem, heard_slow, is_used, above_own_lem}
+use Rattle.runs.proofs.Arrays.{Offices, receive, Match, other, Calls, in_mode_none, heard_slow, is_used, heard_above}
 use Rattle.runs.proofs.Arrays.{Joinable, Chosen, joins, starts}
 use Rattle.settling.specs.Statement.{OfA}
 use Rattle.settling.proofs.Invariants.{Done, Inv}
@@ -59,7 +59,7 @@ module _
     others_low o ho n m k = go (g.mode me) refl
       where
         go : (v : Mode) → g.mode me ≡ v → (other g me o).number ≤ g.num me
-        go None e = absurd ((inv.tested me a.at).in_none_lem e o ho n m)
+        go None e = absurd ((inv.tested me a.at).in_mode_none e o ho n m)
         go Fast e = absurd (not_fast e)
         go Slow e = ((inv.tested me a.at).quiet (busy e)).not_above_lem e o ho n m k
 
@@ -67,14 +67,14 @@ module _
     others_unused o ho n m u = go (g.mode me) refl
       where
         go : (v : Mode) → g.mode me ≡ v → ⊥
-        go None e = (inv.tested me a.at).in_none_lem e o ho n m
+        go None e = (inv.tested me a.at).in_mode_none e o ho n m
         go Fast e = not_fast e
         go Slow e = ((inv.tested me a.at).quiet (busy e)).not_used o ho n m u
 
     -- the item is above the own number
     x_above : Calls after me → g.num me < p.number
     unfolding receive
-    x_above (in_none_lem e) =
+    x_above (in_mode_none e) =
         let u = inv.core.rounds.slow_used me i a.at a.from (λ z. a.others (sym z)) e own_kind in
         let b = inv.core.numbers.used_acc i me a.from a.at.0 a.others in
         let v = inv.core.numbers.acc_got i me a.from a.at.0 a.others in
@@ -95,7 +95,7 @@ module _
         go (no e) = absurd
             (others_unused o ho n (rw (arrived_else g me i p l o e) at m)
             (rw (arrived_else g me i p l o e, other) at u))
-    x_above (above_own_lem e o ho n m k c) = go (ℕ_discrete o i)
+    x_above (heard_above e o ho n m k c) = go (ℕ_discrete o i)
       where
         go : Dec (o ≡ i) → g.num me < p.number
         go (yes e) =

@@ -15,10 +15,10 @@ use Rattle.runs.specs.World.{SentView, nothing_begun, WorldEvent, report, delive
 use Rattle.runs.specs.Files.{cuts}
 use Rattle.runs.specs.Plays.{change, join, leave, hand, join_begun, changes, hands, three}
 use Rattle.settling.specs.Statement.{net_at, OutAndBack, CutsFirst, Assumed, AllReported, Settled, SettlesIf}
-use Rattle.settling.proofs.Changes.{cuts_first_lem as needed-of-cuts}
+use Rattle.settling.proofs.Changes.{cuts_first_lem}
 use Rattle.settling.proofs.Scenarios.{meets, reported}
 use Rattle.settling.specs.Scenarios.{Scenario, starts_fresh, without_mail, others_pass, net_is_a, with_room}
-use Rattle.settling.specs.Scenarios.{no_ceiling, none_lost, out_and_back, cuts_first_lem, state_in, link_in, change_at}
+use Rattle.settling.specs.Scenarios.{no_ceiling, none_lost, out_and_back, cuts_before_all, state_in, link_in, change_at}
 use Rattle.settling.specs.Scenarios.{fails, fails_by_report, summary, no_view, sent_at}
 use Rattle.settling.specs.Scenarios.{with_files, short_room, in_none}
 
@@ -271,7 +271,7 @@ forged_summary :
 unfolding summary
 forged_summary = refl
 
--- out-and-back, and cuts_first: office 0 stores office 1's proposal and is cut off (event 2), when the mark and the
+-- out_and_back, and cuts_before_all: office 0 stores office 1's proposal and is cut off (event 2), when the mark and the
 -- start notice of a report have left. Office 1, whose only report came before the cut, counts the next proposal of
 -- office 0 into view 1,000,003; office 0 has lost the one of office 1 and waits for ever.
 abbrev unheard_cut : Scenario
@@ -286,7 +286,7 @@ unheard_cut =
 unheard_cut_summary :
     summary unheard_cut
     ≡ record {
-      fails = out_and_back ∷ cuts_first_lem ∷ [];
+      fails = out_and_back ∷ cuts_before_all ∷ [];
       point = 4;
       way_count = 1;
       offices = 2;
@@ -323,7 +323,7 @@ unheard_cut_late h =
 
 unheard_cut_unheard : OutAndBack 17 (state_in []) (link_in []) unheard_cut.events (change_at unheard_cut).place → ⊥
 unheard_cut_unheard h = unheard_cut_late
-    (needed-of-cuts 17 (state_in []) (link_in []) unheard_cut.events (change_at unheard_cut).place
+    (cuts_first_lem 17 (state_in []) (link_in []) unheard_cut.events (change_at unheard_cut).place
     unheard_cut_assumed.has_last h)
 
 unheard_cut_waits : (v : View)

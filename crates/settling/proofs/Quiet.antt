@@ -116,7 +116,7 @@ module _ (A : ℕ) (last : ℕ → ℕ) (t : ℕ) (g : Offices) (v : Inv A last 
       new (inr c) = c
 
       go : (g.stored j i ≡ keeping (g.made i)) ⊎ (g.used j i ≡ g.num i) → OneRound g i j
-      go (inl s) = absurd ((v.tested j (all j b)).in_none_lem m i a.0 n (matches j i b a s))
+      go (inl s) = absurd ((v.tested j (all j b)).in_mode_none m i a.0 n (matches j i b a s))
       go (inr u) = new (v.core.rounds.counts i j (all i a) (all j b) n m u)
 
   no_slow : (i : ℕ) → OfA A i → g.mode i ≡ Slow → ⊥

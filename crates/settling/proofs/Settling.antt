@@ -103,7 +103,7 @@ module _ (A : ℕ) (states : ℕ → State) (links : ℕ → ℕ → List Item) 
         keeps = λ i j place x a b k. known.none_lost n i j place x a b (subst (Nth es n) k h);
         not_after = λ i q. not_later i q c;
         is_last = λ i q k. the_report i q (k ∙ c);
-        cuts_first_lem = λ o b left m q k i p. let z = cuts n o i q p (b, left, m, subst (Nth es n) k h) in omega arith;
+        cuts_before = λ o b left m q k i p. let z = cuts n o i q p (b, left, m, subst (Nth es n) k h) in omega arith;
         final = λ i q k. net_left n i e q h ∙ net_from (n + 1) i (omega arith) q (omega arith);
       }
     where

@@ -6,7 +6,6 @@ use Rattle.laws.specs.Fin.{allb, largest, sum}
 use Rattle.laws.specs.Tab.{tab}
 use Rattle.laws.specs.Lists.{runs, pieces}
 use Rattle.laws.specs.Upd.{ifb}
-use Rattle.seats.specs.Seats.{has}
 use Rattle.seats.specs.Offices.{serves, count_of}
 use Rattle.records.specs.declared.Proposal.{Proposal}
 use Rattle.records.specs.Layout.{encode_high, decode_high}
@@ -202,7 +201,7 @@ of_each x t = allb 16 (λ i. not (serves x i) || t i)
 -- what the rule assumes, by its names; the last three are of cuts
 pub data Hypothesis : Type 0 where
   some_seat starts_fresh without_mail others_pass others_mail among has_last net_is_a with_room no_ceiling
-      none_lost before_last out_and_back cuts_first_lem : Hypothesis
+      none_lost before_last out_and_back cuts_before_all : Hypothesis
 
 unfoldable pub holds : Scenario → Lasts → Hypothesis → Bool
 holds p l some_seat = ltb 0 p.set && ltb p.set (2 ^ 64)
@@ -220,7 +219,7 @@ holds p l none_lost = everywhere (loses_old p.set l.place) (opening p) p.events
 holds p l before_last = everywhere (cuts_early p.set l.place) (opening p) p.events
 holds p l out_and_back =
     of_each p.set (λ r. of_each p.set (λ j. eqb j r || after_cuts j r (opening p) p.events 0))
-holds p l cuts_first_lem = everywhere (cuts_first p.set l.place) (opening p) p.events
+holds p l cuts_before_all = everywhere (cuts_first p.set l.place) (opening p) p.events
 
 -- of any list, and of its cuts: request 7's words, and what is needed
 abbrev pub assumed : List Hypothesis
@@ -229,7 +228,7 @@ assumed =
     ∷ no_ceiling ∷ none_lost ∷ []
 
 abbrev pub of_cuts : List Hypothesis
-of_cuts = before_last ∷ out_and_back ∷ cuts_first_lem ∷ []
+of_cuts = before_last ∷ out_and_back ∷ cuts_before_all ∷ []
 
 abbrev pub hypotheses : List Hypothesis
 hypotheses = assumed ++ of_cuts
