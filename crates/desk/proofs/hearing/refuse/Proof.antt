@@ -1,9 +1,0 @@
-use mathlib.Core.Path.{refl}
-use Rattle.desk.proofs.hearing.refuse.Statement.{statement}
-use Rattle.desk.proofs.hearing.refuse.Tie as tie
-
-returns : tie.Need-returns
-returns c = refl
-
-pub refuse_spec : {M : Type 1} → statement M
-refuse_spec = tie.close (tie.spec returns)
