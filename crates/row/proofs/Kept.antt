@@ -86,7 +86,8 @@ module _ (ws : List ℕ) (i : ℕ) (xs : List ℕ) (j : ℕ) (ys : List ℕ) whe
       → tab 16 (slot_of stores) ≡ tab 16 (slot_of ws)
   slots_kept h g =
       tab_ext 16 (slot_of stores) (slot_of ws)
-      (λ o l. slot_kept o (part_clear present_place (1 + slot_length * 16) present_place 1 h (omega arith) (omega arith))
+      (λ o l. slot_kept o
+      (part_clear present_place (1 + slot_length * 16) present_place 1 h (omega arith) (omega arith))
       (part_clear present_place (1 + slot_length * 16) (slot_place o) slot_length h (omega arith) (omega arith))
       (part_clear (numbers_place 0) (stored_length * 16) (numbers_place o) stored_length g (omega arith) (omega arith)))
 

@@ -65,7 +65,8 @@ slot_words_lem ws o lt = rw (row_stored ws o lt, sixteen_within ws (numbers_plac
 pub well_words : (ws : List ℕ)
     → well_formed (state_of ws) ≡ leb (get_or ws own_place 0) 15 && within (get_or ws view_place 0)
     && within (get_or ws start_place 0) && within (get_or ws number_place 0)
-    && allb 16 (λ k. within (get_or ws (starts_place + k) 0)) && allb 16 (λ k. within (get_or ws (accepted_place + k) 0))
+    && allb 16 (λ k. within (get_or ws (starts_place + k) 0))
+    && allb 16 (λ k. within (get_or ws (accepted_place + k) 0))
     && allb 16 (λ k. within (get_or ws (used_place + k) 0)) && allb 16 (λ o. slot_within (stored_at (state_of ws) o))
 unfolding well_formed state_of
 well_words ws = rw (sixteen_within ws starts_place, sixteen_within ws accepted_place, sixteen_within ws used_place)

@@ -31,7 +31,8 @@ packed_bits w h =
     go s (no n) = has_high 16 (packed 16 (has w)) s (packed_lt 16 (has w)) (omega arith)
         ∙ sym (has_high 16 w s h (omega arith))
 
-pub row_present : (ws : List ℕ) (o : ℕ) → o < 16 → (stored_at (state_of ws) o).present ≡ has (get_or ws present_place 0) o
+pub row_present : (ws : List ℕ) (o : ℕ) → o < 16
+    → (stored_at (state_of ws) o).present ≡ has (get_or ws present_place 0) o
 unfolding slot_of
 row_present ws o h = ap (λ (v : Slot). v.present) (row_stored ws o h)
 

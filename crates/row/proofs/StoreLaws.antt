@@ -188,7 +188,8 @@ pub net_changed : (ws : List ℕ) (x : SeatSet) → Row ws
 unfolding state_of
 net_changed ws x r =
     let z = r.long in
-    let at : (p k : ℕ) → p ≡ net_place + k → k < 2 → get_or (sets ws net_place (set_words x)) p 0 ≡ get_or (set_words x) k 0 =
+    let at : (p k : ℕ) → p ≡ net_place + k → k < 2
+        → get_or (sets ws net_place (set_words x)) p 0 ≡ get_or (set_words x) k 0 =
     λ p k e l. in_first ws net_place (set_words x) 0 [] p k e l (omega arith) (λ a b. omega arith) in
     let k = kept ws net_place (set_words x) 0 [] net_place members_place 0 0 (omega arith) (omega arith) (omega arith)
     (omega arith) in
@@ -266,7 +267,8 @@ module _ (ws : List ℕ) (o : ℕ) (b : Bool) (w' : ℕ) (r : Row ws) (lt : o < 
   flag_here : get_or flag_stored present_place 0 ≡ w'
   flag_here = let z = r.long in get_or-set_same ws present_place w' 0 (omega arith)
 
-  flag_present : (k : ℕ) → k < 16 → (slot_of flag_stored k).present ≡ ifb (eqb k o) b (has (get_or ws present_place 0) k)
+  flag_present : (k : ℕ) → k < 16
+      → (slot_of flag_stored k).present ≡ ifb (eqb k o) b (has (get_or ws present_place 0) k)
   unfolding slot_of
   flag_present k h = rw flag_here (f.1 k h)
 
@@ -326,8 +328,10 @@ module _ (ws : List ℕ) (o : ℕ) (v : Slot) (z : length ws ≡ row_length) (lt
   slot_word p k e l = in_first ws (slot_place o) (slot_words v) (numbers_place o) (slot_numbers v) p k e (omega arith)
       (omega arith) (λ a b. omega arith)
 
-  slot_number : (p k : ℕ) → p ≡ numbers_place o + k → k < stored_length → get_or slot_stored p 0 ≡ get_or (slot_numbers v) k 0
-  slot_number p k e l = in_second ws (slot_place o) (slot_words v) (numbers_place o) (slot_numbers v) p k e (omega arith)
+  slot_number : (p k : ℕ) → p ≡ numbers_place o + k → k < stored_length
+      → get_or slot_stored p 0 ≡ get_or (slot_numbers v) k 0
+  slot_number p k e l =
+      in_second ws (slot_place o) (slot_words v) (numbers_place o) (slot_numbers v) p k e (omega arith)
       (omega arith)
 
   presence_kept : get_or slot_stored present_place 0 ≡ get_or ws present_place 0

@@ -1,5 +1,5 @@
--- For table and the crates above: the row of each room in a table of words, written anew or beside that; the states that
--- the rows hold, and check 2 of all rooms.
+-- For table and the crates above: the row of each room in a table of words, written anew or beside that; the states
+-- that the rows hold, and check 2 of all rooms.
 use mathlib.Core.Path.{◌≡◌, refl, sym, ap, ◌∙◌}
 use mathlib.Core.Bool.{true, false}
 use mathlib.Core.List.{List, [], ◌∷◌, ◌++◌, flatten}
@@ -29,7 +29,8 @@ use Rattle.row.proofs.Low.{row_is, is_row_lem, sound_row_lem, sound_well}
 use Rattle.row.proofs.Words.{words_row, state_words}
 
 -- the row of a room is as long as a row
-pub row_length_lem : (ws : List ℕ) (room : ℕ) → length ws ≡ table_length → room < room_count → length (row_at ws room) ≡ row_length
+pub row_length_lem : (ws : List ℕ) (room : ℕ) → length ws ≡ table_length → room < room_count
+    → length (row_at ws room) ≡ row_length
 row_length_lem ws room e l = part_length row_length (row_place room) ws (omega arith)
 
 module _ (ws row : List ℕ) (room : ℕ) (long : length ws ≡ table_length) (l : room < room_count)

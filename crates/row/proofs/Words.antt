@@ -108,7 +108,8 @@ module _ (ws : List ℕ) (r : Row ws) (s : (k : ℕ) → get_or ws k 0 < word) w
   slots_on : (l : List ℕ) → l ≡ run g start_place (rest start_place)
       → each slot_words (tab 16 (slot_of ws)) ++ l ≡ run g (slot_place 0) (rest (slot_place 0))
   slots_on l e =
-      ap (λ (x : List ℕ). x ++ l) (each_run slot_words g slot_length 16 (slot_place 0) (slot_of ws) (λ o h. slot_words_lem o))
+      ap (λ (x : List ℕ). x ++ l)
+      (each_run slot_words g slot_length 16 (slot_place 0) (slot_of ws) (λ o h. slot_words_lem o))
       ∙ ap (λ (x : List ℕ). run g (slot_place 0) (slot_length * 16) ++ x) e
       ∙ join g (slot_place 0) (slot_length * 16) start_place (rest start_place) refl
 
@@ -142,7 +143,8 @@ module _ (ws : List ℕ) (r : Row ws) (s : (k : ℕ) → get_or ws k 0 < word) w
       head_on _ (set_on net_place (rest members_place) _
       (set_on members_place (rest present_place) _ (present_on _ (slots_on _ (three_on _ a))))) ∙ whole
 
-pub row_words : (ws : List ℕ) (t : State) → Row ws → ((k : ℕ) → get_or ws k 0 < word) → state_of ws ≡ t → ws ≡ words_of t
+pub row_words : (ws : List ℕ) (t : State) → Row ws → ((k : ℕ) → get_or ws k 0 < word) → state_of ws ≡ t
+    → ws ≡ words_of t
 row_words ws t r s e = sym (words_state ws r s) ∙ ap words_of e
 
 -- The other way round. All that is asked of a state is that its lists have their lengths.

@@ -5,7 +5,8 @@
 --   then all numbers: 71 start number, 72 proposal number, 73 view number, 74-89 the view's start numbers,
 --   90-105 last accepted, 106-121 used numbers,
 --   122 + 18o for office o: start number, proposal number, sixteen used numbers of its stored proposal.
-use Rattle.std.specs.Prelude.{◌≡◌, Bool, ◌&&◌, List, [], ◌∷◌, ◌++◌, ℕ, zero, suc, ◌+◌, ◌-◌, ◌*◌, ◌<◌, ◌≤◌, ◌/◌, ◌%◌, ◌^◌, length, get_or, eqb, leb, ltb}
+use Rattle.std.specs.Prelude.{◌≡◌, Bool, ◌&&◌, List, [], ◌∷◌, ◌++◌, ℕ, zero, suc, ◌+◌, ◌-◌, ◌*◌, ◌<◌, ◌≤◌, ◌/◌, ◌%◌}
+use Rattle.std.specs.Prelude.{◌^◌, length, get_or, eqb, leb, ltb}
 use Rattle.laws.specs.Tab.{tab}
 use Rattle.seats.specs.declared.SeatSet.{SeatSet}
 use Rattle.seats.specs.Seats.{has}
@@ -164,7 +165,8 @@ stored_low ws = every_office (presence (state_of ws)) (low_at ws)
 
 -- and so of the own start number and proposal number and of the view number: of all that an event builds on
 unfoldable pub capped_row : List ℕ → Bool
-capped_row ws = leb (get_or ws start_place 0) low && leb (get_or ws number_place 0) low && leb (get_or ws view_place 0) low
+capped_row ws =
+    leb (get_or ws start_place 0) low && leb (get_or ws number_place 0) low && leb (get_or ws view_place 0) low
     && stored_low ws
 
 -- no start or proposal number of the first n slots is above a number

@@ -3,7 +3,8 @@ ghost use Rattle.std.specs.Prelude.{◌≡◌, ◌<◌, ◌≤◌, length};
 ghost use Rattle.rules.specs.Rules.{restarted};
 ghost use Rattle.row.specs.Row.{row_length, Row, words_of, mode_of};
 ghost use Rattle.row.specs.Changes.{Changed};
-ghost use Rattle.rules.specs.State.{with_mode, with_net_set, with_start, with_number, with_view, with_accepted, with_used};
+ghost use Rattle.rules.specs.State.{with_mode, with_net_set, with_start, with_number, with_view};
+ghost use Rattle.rules.specs.State.{with_accepted, with_used};
 
 use crate::layout;
 use crate::stores::{put_run, put_set, put_zeros};

@@ -1,5 +1,5 @@
-// The state of an office in a row of words, one row for each room in the table that the caller lends; inner to the layer
-// of the step. Contracts speak of the record State; no function outside this crate names a place of the row.
+// The state of an office in a row of words, one row for each room in the table that the caller lends; inner to the
+// layer of the step. Contracts speak of the record State; no function outside this crate names a place of the row.
 #![tactic(auto)]
 
 // The places.

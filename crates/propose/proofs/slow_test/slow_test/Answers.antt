@@ -10,9 +10,7 @@ use Rattle.event_parts.proofs.Bounding.{bounded_le, opens_bounded}
 use Rattle.event_parts.proofs.Dids.{did_as, did_then, did_none, fits_as, fits_first, fits_second}
 use Rattle.rule_laws.proofs.Modes.{kind_none, is_busy}
 use Rattle.propose.proofs.SlowCases.{slow_first, slow_made, slow_quiet}
-use Rattle.propose.proofs.slow_test.slow_test.Goals.{Then-mode-eq0}
-use Rattle.propose.proofs.slow_test.slow_test.Goals.{Then-mode-eq0}
-use Rattle.propose.proofs.slow_test.slow_test.Goals.{Else-mode-eq0}
+use Rattle.propose.proofs.slow_test.slow_test.Goals.{Then-mode-eq0, Else-mode-eq0}
 use Rattle.propose.proofs.slow_test.slow_test.Goals as goal
 
 -- no agreement is under way
@@ -44,12 +42,14 @@ proposes_slow-requires c =
     let d = c.opens-next.ensures in (
       d.row,
       rw d.is (bounded_le (early + 1) _ (opens_bounded early _ c.requires.1) reach (omega arith)),
-      fits_second opens proposes_slow a.s.now a.out.now a.at (fits (goal.at.proposes_slow-requires c).Then-mode-eq0) _ _ _ d,
+      fits_second opens proposes_slow a.s.now a.out.now a.at
+          (fits (goal.at.proposes_slow-requires c).Then-mode-eq0) _ _ _ d,
     )
 
 pub returns-then-mode-eq0 : goal.returns-then-mode-eq0
 returns-then-mode-eq0 c =
-    did_as slow_test (did_then c.opens-next.ensures c.proposes_slow.ensures) (slow_first _ (idle (goal.at.returns-then-mode-eq0 c).Then-mode-eq0))
+    did_as slow_test (did_then c.opens-next.ensures c.proposes_slow.ensures)
+    (slow_first _ (idle (goal.at.returns-then-mode-eq0 c).Then-mode-eq0))
 
 pub slow_called-requires : goal.slow_called-requires
 slow_called-requires c =
@@ -69,7 +69,8 @@ proposes_slow-requires-then-slow_called c =
 pub returns-then-slow_called : goal.returns-then-slow_called
 returns-then-slow_called c =
     did_as slow_test c.proposes_slow-then-slow_called.ensures
-    (slow_made _ (busy (goal.at.returns-then-slow_called c).Else-mode-eq0) (sym c.slow_called.ensures ∙ c.if-slow_called.true))
+    (slow_made _ (busy (goal.at.returns-then-slow_called c).Else-mode-eq0)
+    (sym c.slow_called.ensures ∙ c.if-slow_called.true))
 
 pub returns : goal.returns
 returns c =

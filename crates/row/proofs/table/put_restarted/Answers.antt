@@ -24,7 +24,8 @@ loop-room-preserved c =
     let a = c.args in
     let row = c.put_restarted.new.s in
     let is = c.put_restarted.ensures in
-    let fits : length row ≡ row_length = rw is (words_row (restarted a.office a.m) (restarted_shaped a.office a.m)).long in
+    let fits : length row ≡ row_length =
+    rw is (words_row (restarted a.office a.m) (restarted_shaped a.office a.m)).long in
     let put = row_put l.t row l.room l.invariant.1 (omega arith) fits in (
       omega arith,
       rw put (length-sets l.t (row_place l.room) row ∙ l.invariant.1),
