@@ -27,7 +27,7 @@ use Rattle.rules.specs.Refusals.{step_of}
 use Rattle.rules.specs.Days.{computed, stated, further_computed, further_stated}
 use Rattle.rule_laws.proofs.Written.{ViewLast, SeatsOnly, RecordWithin}
 use Rattle.moshe.specs.Moshe.{Leaves, initially, nothing_sent, server_of, state_from}
-use Rattle.moshe.specs.Moshe.{fast_on_proposal, fast_on_ne, on_proposal01, onne01, Known, OwnFast, OthersKnown}
+use Rattle.moshe.specs.Moshe.{fast_on_proposal, fast_on_ne, on_proposal01, on_ne01, Known, OwnFast, OthersKnown}
 use Rattle.runs.specs.Office.{Input, LogEntry, answer_of, log_of, Before, CountedAt}
 use Rattle.row.specs.Table.{table_of, is_table}
 use Rattle.code_runs.specs.Words.{Handed, words_answer}
@@ -38,7 +38,7 @@ pub record Figures : Type 0 where
   pub initially_fresh : (o : ℕ) → state_from zeros (initially o) ≡ fresh o
   -- Figure 6's handlers with document 01's slow agreement are the rules: for a report that changes the net view,
   pub report : (s : State) (n : Report) → repeats s n ≡ false
-      → Leaves s.own s.accepted (onne01 s.accepted (server_of s) n) (report_rule s n)
+      → Leaves s.own s.accepted (on_ne01 s.accepted (server_of s) n) (report_rule s n)
   -- and for a proposal, with the last accepted numbers beside, which the paper does not have.
   pub proposal : (s : State) (p : Proposal) → let accepted = tab 16 (upd (accepted_at s) p.sender p.number) in
       Leaves s.own accepted (on_proposal01 accepted (server_of s) p) (proposal_rule s p)

@@ -32,7 +32,7 @@ use Rattle.moshe.specs.Moshe.{initially, props_of, used_props_of, update_ns_view
 use Rattle.moshe.specs.Moshe.{proposal_fa, others, send_proposal, store_prop, use_props, send_view, deliver_view}
 use Rattle.moshe.specs.Moshe.{matches_ns_view, on_proposal, starts_fa, on_ne, reached_fa, never_sa, no_sa}
 use Rattle.moshe.specs.Moshe.{fast_on_proposal, fast_on_ne, server_of, state_from, addressed, handled_of, needed}
-use Rattle.moshe.specs.Moshe.{slow_proposal, reached, on_proposal01, onne01, IsFast, Known, OwnFast, OthersKnown}
+use Rattle.moshe.specs.Moshe.{slow_proposal, reached, on_proposal01, on_ne01, IsFast, Known, OwnFast, OthersKnown}
 use Rattle.rule_laws.proofs.Parts.{proposed_reads, received_reads}
 use Rattle.rule_laws.proofs.Repeats.{repeat_rule, change_rule_lem}
 use Rattle.rule_laws.proofs.Tests.{not_called, agreed_out}
@@ -237,7 +237,7 @@ leaves own accepted r o a e = rw e (record { state = rw (← a); sent = refl })
 -- the handlers with document 01's slow agreement are the rules, on every state, for reports that change the net view;
 -- the own delivery leaves the last accepted numbers
 pub report_figure : (s : State) (n : Report) → repeats s n ≡ false
-    → Leaves s.own s.accepted (onne01 s.accepted (server_of s) n) (report_rule s n)
+    → Leaves s.own s.accepted (on_ne01 s.accepted (server_of s) n) (report_rule s n)
 unfolding proposes_fast proposed opened with_net
 report_figure s n c = rw (change_rule_lem s n c) (leaves _ _ _ _ (change_keeps (with_net s (net_after s.net.bits n)))
     (on_ne _ _ _ s n (λ e. tests_are _ _)))

@@ -284,8 +284,8 @@ module _ (accepted : List ℕ) where
   abbrev pub on_proposal01 : Server → Proposal → Handled
   on_proposal01 = on_proposal needed slow_proposal reached
 
-  abbrev pub onne01 : Server → NE → Handled
-  onne01 = on_ne needed slow_proposal reached
+  abbrev pub on_ne01 : Server → NE → Handled
+  on_ne01 = on_ne needed slow_proposal reached
 
 -- where fast agreement is as printed: the own stored proposal is fast, and those of the others have kind 1 or 2
 abbrev pub IsFast : Slot → Type 0
