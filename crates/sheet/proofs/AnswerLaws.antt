@@ -34,7 +34,8 @@ module _ (v : View) (rs : List Sync) where
       → MissingSeat v rs seat
   unfolding lacks_record
   lowest_missing seat is l =
-      let e : lacks_record v rs seat ≡ true = rw (← is) at (lowest_passes seat_count (lacks_record v rs) (rw (← is) l)) in
+      let e : lacks_record v rs seat ≡ true =
+      rw (← is) at (lowest_passes seat_count (lacks_record v rs) (rw (← is) l)) in
       record {
         member = and_l _ _ e;
         none_counts = missing_none v seat rs (and_r (contains_of v.members.bits seat) _ e);
@@ -47,7 +48,8 @@ module _ (v : View) (rs : List Sync) where
   unfolding names_same contains_of
   none_missing previous e = record { within = inside; each = named }
     where
-      held : (s : ℕ) → s < seat_count → has (packed seat_count (names_same v previous rs)) s ≡ names_same v previous rs s
+      held : (s : ℕ) → s < seat_count → has (packed seat_count (names_same v previous rs)) s
+          ≡ names_same v previous rs s
       held s l = has_packed seat_count (names_same v previous rs) s l
 
       inside : (s : ℕ) → has (packed seat_count (names_same v previous rs)) s ≡ true → Member v s

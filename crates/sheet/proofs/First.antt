@@ -109,7 +109,8 @@ module _ (v : View) (seat : ℕ) where
   exchanged r q b n = go (counts v seat r) (counts v seat q) refl refl
     where
       go : (s t : Bool) → counts v seat r ≡ s → counts v seat q ≡ t
-          → ifb s (some r) (ifb t (some q) (record_for v seat b)) ≡ ifb t (some q) (ifb s (some r) (record_for v seat b))
+          → ifb s (some r) (ifb t (some q) (record_for v seat b))
+          ≡ ifb t (some q) (ifb s (some r) (record_for v seat b))
       go true true d e = absurd (n (counts_own v seat r d ∙ sym (counts_own v seat q e)))
       go true false d e = refl
       go false true d e = refl

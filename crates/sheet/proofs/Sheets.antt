@@ -82,7 +82,8 @@ module _ (view : List ℕ) (previous : ℕ) where
         → GoodRecord q
         → counts shown (decode_sync r).seat (decode_sync r) ≡ true → (decode_sync p).seat ≡ (decode_sync r).seat
         → (decode_sync q).seat ≡ (decode_sync r).seat
-        → came_along (a ++ (r ++ (b ++ (p ++ c)))) view previous ≡ came_along (a ++ (r ++ (b ++ (q ++ c)))) view previous
+        → came_along (a ++ (r ++ (b ++ (p ++ c)))) view previous
+        ≡ came_along (a ++ (r ++ (b ++ (q ++ c)))) view previous
     first_decides r p q b c n size gr gp gq d ep eq =
         same_behind (r ++ (b ++ (p ++ c))) (r ++ (b ++ (q ++ c))) same_length same_bad same_record
       where

@@ -20,7 +20,8 @@ use Rattle.sheet.specs.Sheet.{no_sheet, ask_checks, sync_checks, first_bad, alon
 
 -- the answer; to unfold it is to unfold the definitions
 unfoldable pub answering : List ℕ → List ℕ → ℕ → Along
-unfolding bytes_all bit anyb lowest_below tab has contains_of office_of serves packed encode_notice encode_view encode_sync
+unfolding bytes_all bit anyb lowest_below tab has contains_of office_of serves packed encode_notice encode_view
+    encode_sync
     room_of decode_view decode_sync mark_of check_for
     check_own pieces counts record_for lacks_record names_same answer_from asked_above no_sheet ask_checks sync_checks
     first_bad along_checks came_along

@@ -1,6 +1,7 @@
 -- Who came along from the old view: what a sheet of sync records, a view and one's own previous view number answer, in
 -- the order of change requests 4 and 9.
-use Rattle.std.specs.Prelude.{Bool, true, false, ◌&&◌, ◌||◌, not, List, [], ◌∷◌, map, ℕ, ◌+◌, ◌*◌, ◌/◌, ◌%◌, length, eqb, ltb, leb}
+use Rattle.std.specs.Prelude.{Bool, true, false, ◌&&◌, ◌||◌, not, List, [], ◌∷◌, map, ℕ, ◌+◌, ◌*◌, ◌/◌, ◌%◌, length}
+use Rattle.std.specs.Prelude.{eqb, ltb, leb}
 use Rattle.std.proofs.Math.Option.{Option, none, some}
 use Rattle.laws.specs.Checks.{Check, numbered, first_of}
 use Rattle.laws.specs.Lists.{pieces}
@@ -10,7 +11,8 @@ use Rattle.seats.specs.Seats.{seat_count, contains_of}
 use Rattle.seats.specs.declared.SeatSet.{SeatSet}
 use Rattle.seats.specs.Offices.{packed}
 use Rattle.records.specs.Numbers.{limit, room_above}
-use Rattle.records.specs.Layout.{view_mark, view_length, sync_mark, sync_length, value_of, mark_of, check_own, decode_view}
+use Rattle.records.specs.Layout.{view_mark, view_length, sync_mark, sync_length, value_of, mark_of, check_own}
+use Rattle.records.specs.Layout.{decode_view}
 use Rattle.records.specs.Layout.{room_of, decode_sync}
 use Rattle.records.specs.declared.View.{View}
 use Rattle.records.specs.declared.Sync.{Sync}
