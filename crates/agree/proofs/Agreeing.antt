@@ -24,7 +24,8 @@ pub agreement_not : (s : State) → agreed s ≡ false → nothing_written s ≡
 unfolding agreement_test
 agreement_not s e = rw e
 
-pub agreement_is : (s : State) (v : View) → agreed s ≡ true → v ≡ view_of s → one concluded (view v) s ≡ agreement_test s
+pub agreement_is : (s : State) (v : View) → agreed s ≡ true → v ≡ view_of s
+    → one concluded (view v) s ≡ agreement_test s
 unfolding agreement_test
 agreement_is s v e w = rw (e, w)
 

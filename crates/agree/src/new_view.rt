@@ -28,8 +28,8 @@ fn start_at(s: &[u32], net: SeatSet, o: usize) -> u32
 // One office more: its number copied; the largest of those copied so far comes back.
 fn lay(starts: &mut [u32; 16], o: usize, n: u32, largest: u32) -> u32
     requires { o < 16 }
-    ensures { record { starts = starts.exit.now; largest = result }
-        ≡ lay_of (record { starts = starts.entry.now; largest = largest }) o n }
+    ensures { record { starts = starts.new; largest = result }
+        ≡ lay_of (record { starts = starts.old; largest = largest }) o n }
 {
     starts[o] = n;
     larger(n, largest)
