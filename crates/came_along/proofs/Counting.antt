@@ -17,7 +17,7 @@ use Rattle.seats.proofs.OfficeLaws.{packed_lt, has_packed}
 use Rattle.records.specs.declared.View.{View}
 use Rattle.records.specs.declared.Sync.{Sync}
 use Rattle.desk.specs.Views.{start_for}
-use Rattle.sheet.specs.Sheet.{counts, missing, lacks_record, names_same}
+use Rattle.sheet.specs.Sheet.{counts, lacks_record, names_same}
 use Rattle.sheet.proofs.First.{counts_other}
 use Rattle.sheet.proofs.Members.{counts_seat, lacks_none, same_none, lacks_next, same_next}
 use Rattle.came_along.specs.declared.sheet_pass.Found.{Found}

@@ -12,7 +12,7 @@ use Rattle.records.specs.Layout.{sync_length, decode_sync}
 use Rattle.records.specs.declared.View.{View}
 use Rattle.record_bytes.specs.declared.syncs.SyncRead.{SyncRead}
 use Rattle.laws.specs.Lists.{pieces}
-use Rattle.sheet.specs.Sheet.{records_in, records_on, missing, sync_checks, first_bad}
+use Rattle.sheet.specs.Sheet.{records_in, records_on, sync_checks, first_bad}
 use Rattle.sheet.proofs.Records.{records_split, records_next}
 use Rattle.sheet.proofs.Bad.{bad_append, bad_one}
 use Rattle.came_along.specs.Record.{record_read}
