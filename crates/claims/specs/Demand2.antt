@@ -80,7 +80,7 @@ pub record Views : Type 0 where
   pub once : (own : ℕ) (hs : List Input) (e f : LogEntry) → Before e f (log_of (fresh own) hs)
       → (o : ℕ) (p q : Proposal) → CountedAt e o p → CountedAt f o q → p.number < q.number
   -- an event sends no two views.
-  pub single_view : (e : LogEntry) (v w : View) → Memᴰ (view v) (answer_of e).written
+  pub one_view : (e : LogEntry) (v w : View) → Memᴰ (view v) (answer_of e).written
       → Memᴰ (view w) (answer_of e).written → v ≡ w
   -- A view that is sent is of the net view at that moment: none is known to be obsolete.
   pub of_net_view : (e : LogEntry) (v : View) → Memᴰ (view v) (answer_of e).written

@@ -24,7 +24,7 @@ use Rattle.rooms.specs.Statement.{UsedWellInRoom}
 pub record OverEveryRun : Type 0 where
   -- if two offices each send a view using the same slow proposal, the two views are equal in number, members and start
   -- numbers;
-  pub one_view : (states : ℕ → State) (links : ℕ → ℕ → List Item) (fs : List FileEvent)
+  pub one_slow_view : (states : ℕ → State) (links : ℕ → ℕ → List Item) (fs : List FileEvent)
       → let es = plainly (filed_first states links (λ i. [])) fs in AllFresh states links es → OneView states links es
   -- and no office uses one proposal for two views.
   pub used_once : (states : ℕ → State) (links : ℕ → ℕ → List Item) (fs : List FileEvent)

@@ -22,7 +22,8 @@ use Rattle.runs.specs.Office.{answer_to, LogEntry, answer_of, Turn, entire, brok
 use Rattle.runs.specs.World.{World, WorldEvent, next}
 use Rattle.runs.specs.Turns.{TurnAt}
 use Rattle.runs.proofs.OfficeGiven.{gives_once}
-use Rattle.runs.proofs.OfficeViews.{ViewSent, counted_shown, counted_member, view_counts, single_view}
+use Rattle.runs.proofs.OfficeViews.{ViewSent, counted_shown, counted_member, view_counts}
+use Rattle.runs.proofs.OfficeViews.{one_view as single_view}
 use Rattle.runs.proofs.WorldTurns.{HasLeft, Turning, turning}
 use Rattle.one_view.specs.Statement.{Uses, OneView}
 use Rattle.one_view.proofs.Left.{Known, still_known, came_known, made_known}

@@ -331,9 +331,9 @@ pub no_proposal_twice : (own : ℕ) (hs : List Input) (e f : LogEntry) → Befor
 no_proposal_twice own hs e f b o p q c d = counted_once (fresh own) (fresh_kept_lem own) hs e f b o p q c d
 
 -- and an event sends no two
-pub single_view : (e : LogEntry) (v w : View) → Memᴰ (view v) (answer_of e).written
+pub one_view : (e : LogEntry) (v w : View) → Memᴰ (view v) (answer_of e).written
     → Memᴰ (view w) (answer_of e).written → v ≡ w
-single_view e v w m n =
+one_view e v w m n =
     let a = (answer_ends e.before e.handed).1 in
     (a v m).is ∙ sym (a w n).is
 
