@@ -50,7 +50,8 @@ module _ (ws : List ℕ) (e : Event) (m : ℕ) (found : m ≡ (act_of (state_of 
     pub accepts_event : AcceptsEvent (state_of ws) e
     accepts_event = go (act_cases (state_of ws) e)
       where
-        go : Refused (state_of ws) (act_of (state_of ws) e) ⊎ AcceptsEvent (state_of ws) e → AcceptsEvent (state_of ws) e
+        go : Refused (state_of ws) (act_of (state_of ws) e) ⊎ AcceptsEvent (state_of ws) e
+            → AcceptsEvent (state_of ws) e
         go (inl r) = absurd (r.reason (sym found ∙ z))
         go (inr a) = a
 

@@ -1,6 +1,5 @@
 -- For making: the fresh table at each exit, and what the words hold then.
-use mathlib.Core.Path.{◌≡◌, refl, ap, ◌∙◌}
-use mathlib.Core.Bool.{true}
+use mathlib.Core.Path.{◌≡◌, ap, ◌∙◌}
 use mathlib.Core.List.{List}
 use Prim.Native.Nat.{ℕ, ◌≤◌, ◌<◌}
 use native.Mathlib.Omega.{arith}
@@ -9,7 +8,7 @@ use lib.ListN.{length}
 use borrow.Author.Tests.{ne_eqb, eq-eqb, le-leb, lt-leb}
 use Rattle.records.specs.Numbers.{room_count}
 use Rattle.rules.specs.Refusals.{Made, made_of}
-use Rattle.rules.specs.Tables.{Table, restarted_table, well_table, made_table}
+use Rattle.rules.specs.Tables.{restarted_table, made_table}
 use Rattle.rule_laws.proofs.Exits.{made_0, made_1, made_passes}
 use Rattle.rule_laws.proofs.Parts.{fresh_restarted}
 use Rattle.rule_laws.proofs.Shapes.{Shaped}

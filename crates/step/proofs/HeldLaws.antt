@@ -15,7 +15,8 @@ use Rattle.rules.specs.Refusals.{event_of, rule_of}
 use Rattle.rules.specs.Tables.{Table, TableResult, read_of, step_table}
 use Rattle.rule_laws.proofs.Monotone.{event_grows}
 use Rattle.rule_laws.proofs.Walk.{arrived_own}
-use Rattle.rule_laws.proofs.TableSteps.{TableAccepts, TableRefused, table_cases, table_accepts, table_by_lem, event_read}
+use Rattle.rule_laws.proofs.TableSteps.{TableAccepts, TableRefused, table_cases, table_accepts, table_by_lem}
+use Rattle.rule_laws.proofs.TableSteps.{event_read}
 use Rattle.rule_laws.proofs.TableSteps.{step_acts, step_unread}
 use Rattle.rule_laws.proofs.Shapes.{Shaped, event_shaped, read_sixteen}
 use Rattle.row.specs.Row.{words_of}
@@ -47,7 +48,8 @@ module _ (office : ℕ) (ws b : List ℕ) (output : ℕ) (sound : SoundTable ws)
       })
       go (inr a) =
           let s = (rule_of (t (room_of b)) (event_of b)).state in
-          let shaped : Shaped s = event_shaped (t (room_of b)) (event_of b) (read_sixteen b) (state_shaped (row_at ws (room_of b))) in
+          let shaped : Shaped s =
+          event_shaped (t (room_of b)) (event_of b) (read_sixteen b) (state_shaped (row_at ws (room_of b))) in
           let row = words_row s shaped in
           let e = table_accepts office t b output a in
           let is : (in_words ws (room_of b) q).words ≡ with_row ws (room_of b) (words_of s) =

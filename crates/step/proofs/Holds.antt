@@ -94,7 +94,8 @@ pub alike : (office : ℕ) (ws vs b : List ℕ) (output : ℕ) → SoundTable ws
     → row_at ws (room_of b) ≡ row_at vs (room_of b)
     → ((step_words office ws b output).refusal ≡ (step_words office vs b output).refusal)
     × ((step_words office ws b output).written ≡ (step_words office vs b output).written)
-    × (row_at (step_words office ws b output).words (room_of b) ≡ row_at (step_words office vs b output).words (room_of b))
+    × (row_at (step_words office ws b output).words (room_of b)
+    ≡ row_at (step_words office vs b output).words (room_of b))
 alike office ws vs b output s t l e =
     let a = row_step office ws b output s l in
     let c = row_step office vs b output t l in
@@ -115,7 +116,8 @@ repeat_stays office ws b output r sound below known read fits is e =
     let long = sound_length ws sound in
     let row = sound_row_lem (row_at ws room) (sound_rows ws sound room l) in
     let well = room_well (table_of ws) (sound_table_lem ws sound) room l in
-    let words : words_of (state_of (row_at ws room)) ≡ row_at ws room = words_state (row_at ws room) row (below_row room) in
+    let words : words_of (state_of (row_at ws room)) ≡ row_at ws room =
+    words_state (row_at ws room) row (below_row room) in
     rw (
       on_table office ws b output (sound_is ws sound),
       step_in_room office (table_of ws) b output (sound_table_lem ws sound) l,

@@ -1,9 +1,0 @@
-use mathlib.Core.Path.{refl}
-use Rattle.step.proofs.answers.accept.Statement.{statement}
-use Rattle.step.proofs.answers.accept.Tie as tie
-
-returns : tie.Need-returns
-returns c = refl
-
-pub accept_spec : {M : Type 1} → statement M
-accept_spec = tie.close (tie.spec returns)
