@@ -22,13 +22,13 @@ use Rattle.seats.proofs.OfficeLaws.{seat_serves, serves_seat}
 use Rattle.records.specs.declared.Report.{Report}
 use Rattle.records.specs.declared.Proposal.{Proposal}
 use Rattle.rules.specs.State.{Mode, None, Fast, Slow, Slot, State, keeping, fast, slow, zeros, stored_at, accepted_at}
-use Rattle.rules.specs.Rules.{notice, proposal, Outcome, nothing_written, and_then, fresh, restarted, net_after, with_net}
-use Rattle.rules.specs.Rules.{repeats, seated, opened, notice_of, opens, next_number, own_proposal, proposed, receives}
-use Rattle.rules.specs.Rules.{proposes_fast, received, in_slot}
-use Rattle.rules.specs.Rules.{slow_called, begins_in, proposes_slow, slow_test, is_none, agrees_kind, agrees_in, agreed}
-use Rattle.rules.specs.Rules.{start_of, view_of, concluded, agreement_test, tests, change_rule, report_rule, proposal_rule}
-use Rattle.moshe.specs.Moshe.{Leaves, Server, to_clients, to_servers, Handled, nothing_sent, then_run, local}
-use Rattle.moshe.specs.Moshe.{initially, props_of, used_props_of, update_ns_view, any_local, start_fa, send_start_change}
+use Rattle.rules.specs.Rules.{notice, proposal, Outcome, nothing_written, and_then, fresh, restarted, net_after}
+use Rattle.rules.specs.Rules.{with_net, repeats, seated, opened, notice_of, opens, next_number, own_proposal, proposed}
+use Rattle.rules.specs.Rules.{receives, proposes_fast, received, in_slot, slow_called, begins_in, proposes_slow}
+use Rattle.rules.specs.Rules.{slow_test, is_none, agrees_kind, agrees_in, agreed, start_of, view_of, concluded}
+use Rattle.rules.specs.Rules.{agreement_test, tests, change_rule, report_rule, proposal_rule}
+use Rattle.moshe.specs.Moshe.{Leaves, Server, to_clients, to_servers, Handled, nothing_sent, then_run, local, initially}
+use Rattle.moshe.specs.Moshe.{props_of, used_props_of, update_ns_view, any_local, start_fa, send_start_change}
 use Rattle.moshe.specs.Moshe.{proposal_fa, others, send_proposal, store_prop, use_props, send_view, deliver_view}
 use Rattle.moshe.specs.Moshe.{matches_ns_view, on_proposal, starts_fa, on_ne, reached_fa, never_sa, no_sa}
 use Rattle.moshe.specs.Moshe.{fast_on_proposal, fast_on_ne, server_of, state_from, addressed, handled_of, needed}
@@ -162,12 +162,12 @@ module _ (N : Server → Proposal → Bool) (S : Server → Proposal → Handled
           (tests (proposes_fast (opened t)).state).written),
     )
 
-  on_ne : (s : State) (n : Report)
+  on_ne_lem : (s : State) (n : Report)
       → (let t = with_net s (net_after s.net.bits n) in
       seated t ≡ true → SameTests (proposes_fast (opened t)).state (made t))
       → on_ne N S R (server_of s) n ≡ handled_of s.own (change_rule (with_net s (net_after s.net.bits n)))
   unfolding on_ne change_rule update_ns_view net_after with_net any_local seated
-  on_ne s n h = go (seated t) refl
+  on_ne_lem s n h = go (seated t) refl
     where
       t : State
       t = with_net s (net_after s.net.bits n)
@@ -240,7 +240,7 @@ pub report_figure : (s : State) (n : Report) → repeats s n ≡ false
     → Leaves s.own s.accepted (on_ne01 s.accepted (server_of s) n) (report_rule s n)
 unfolding proposes_fast proposed opened with_net
 report_figure s n c = rw (change_rule_lem s n c) (leaves _ _ _ _ (change_keeps (with_net s (net_after s.net.bits n)))
-    (on_ne _ _ _ s n (λ e. tests_are _ _)))
+    (on_ne_lem _ _ _ s n (λ e. tests_are _ _)))
 
 -- where the paper would start an agreement once more, a repeat leaves every variable and sends nothing
 pub repeat_figure : (s : State) (n : Report) → repeats s n ≡ true
@@ -261,7 +261,8 @@ module _ (s : State) (m : s.mode ≡ Fast) (c : slow_called s ≡ false) (f : Ow
       → (in_slot s o).kind ≡ fast
   kind_fast o l h e = go (ℕ_discrete o s.own)
     where
-      heard : (n : o ≡ s.own → ⊥) → ((in_slot s o).kind ≡ fast) ⊎ ((in_slot s o).kind ≡ slow) → (in_slot s o).kind ≡ fast
+      heard : (n : o ≡ s.own → ⊥) → ((in_slot s o).kind ≡ fast) ⊎ ((in_slot s o).kind ≡ slow)
+          → (in_slot s o).kind ≡ fast
       heard n (inl e) = e
       heard n (inr w) =
           absurd ((not_called s c).no_slow m o l (record { another = n; is_there = h; same_members = e }) w)
@@ -324,7 +325,7 @@ pub fast_report_figure : (s : State) (n : Report) → repeats s n ≡ false → 
     → Leaves s.own s.accepted (fast_on_ne (server_of s) n) (report_rule s n)
 unfolding proposes_fast proposed opened with_net made own_proposal
 fast_report_figure s n d c k = rw (change_rule_lem s n d) (leaves _ _ _ _ (change_keeps t)
-    (on_ne never_sa no_sa reached_fa s n (λ e. fast_tests u refl (c e) own_fast known (made t))))
+    (on_ne_lem never_sa no_sa reached_fa s n (λ e. fast_tests u refl (c e) own_fast known (made t))))
   where
     t : State
     t = with_net s (net_after s.net.bits n)

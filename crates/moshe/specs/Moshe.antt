@@ -1,7 +1,8 @@
 -- Moshe, source document 004, Figures 5 and 6, in the paper's names. Clients are seats, servers are offices, and its
 -- messages are the records of document 01. The three functions that Figure 6 leaves to Figure 7 are parameters of the
 -- handlers.
-use Rattle.std.specs.Prelude.{◌≡◌, Bool, true, false, ◌&&◌, ◌||◌, not, ◌⊎◌, List, [], ◌∷◌, ◌++◌, map, ℕ, ◌+◌, ◌<◌, max, get_or, eqb}
+use Rattle.std.specs.Prelude.{◌≡◌, Bool, true, false, ◌&&◌, ◌||◌, not, ◌⊎◌, List, [], ◌∷◌, ◌++◌, map, ℕ, ◌+◌, ◌<◌, max}
+use Rattle.std.specs.Prelude.{get_or, eqb}
 use Rattle.laws.specs.Fin.{allb, anyb, largest}
 use Rattle.laws.specs.Tab.{tab}
 use Rattle.laws.specs.Upd.{ifb, upd}
@@ -204,7 +205,8 @@ module _ (TestIfSAProposalNeeded : Server → Proposal → Bool) (SendSAProposal
   -- lines 4, 8 and 9: the own proposal goes through the other handler too
   unfoldable pub starts_fa : Server → Handled
   starts_fa v =
-      then_run (record { server = v; sent = send_start_change v ++ send_proposal v }) (λ w. on_proposal w (proposal_fa v))
+      then_run (record { server = v; sent = send_start_change v ++ send_proposal v })
+      (λ w. on_proposal w (proposal_fa v))
 
   unfoldable pub on_ne : Server → NE → Handled
   on_ne v n = let w = update_ns_view v n in ifb (any_local w) (starts_fa (start_fa w)) (nothing_sent w)

@@ -142,7 +142,8 @@ module _ (run : FreshRun) where
 
       numbered : (k : ℕ) → k < 16 → serves test.net.bits k ≡ true → (in_slot test k).number ≡ p.number
       numbered k l s =
-          (agree k l s).own_number_lem in_slow ∙ sym (at_q.own_number_lem in_slow) ∙ ap (λ (y : Proposal). y.number) is_p
+          (agree k l s).own_number_lem in_slow ∙ sym (at_q.own_number_lem in_slow)
+          ∙ ap (λ (y : Proposal). y.number) is_p
 
       gone : (k : ℕ) → k < 16 → serves test.net.bits k ≡ true
           → HasLeft (world run (length run.events)) k (proposal (in_slot test k))

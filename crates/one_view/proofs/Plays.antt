@@ -91,7 +91,8 @@ told = hands_to 0 (a_report (report_of 1 0)) full_room
 
 cut_plainly : plainly (filed_first fresh no_links (λ i. [])) cut_before_view ≡ cut_events
 unfolding given at_first answered with_link report_answer proposal_answer begun_writes taken_up cut_answer next plainly
-    next_filed done_at actions_from puts_all file_after left_in high_bytes encode_high decode_high pieces last_in last_high
+    next_filed done_at actions_from puts_all file_after left_in high_bytes encode_high decode_high pieces last_in
+    last_high
 cut_plainly = refl
 
 cut_fresh : AllFresh fresh no_links cut_events

@@ -32,8 +32,7 @@ use Rattle.runs.proofs.WorldTurns.{HasLeft, Turning, WhoseTurn, nobodys, somebod
 use Rattle.runs.proofs.WorldTurns.{own_left}
 use Rattle.one_view.specs.Statement.{UsedOnce, UsedWellAbove, UsedWellWithFiles, everyone}
 use Rattle.one_view.proofs.Left.{BeforeEvent, none_stored, still_left, came_from}
-use Rattle.one_view.proofs.Held.{FreshRun, world, UseIn, Place, here, before_event, given_now, after}
-use Rattle.one_view.proofs.Held.{stays_left}
+use Rattle.one_view.proofs.Held.{FreshRun, world, UseIn, Place, here, before_event, given_now, after, stays_left}
 use Rattle.one_view.proofs.OneView.{entry, tested, shown, turns, used_known, one_view}
 
 -- an event hands an office one thing

@@ -268,7 +268,8 @@ unfolding next_in next event_in
 room_next k l w h (room_report o m r output) v = go (ℕ_discrete m k)
   where
     go : Dec (m ≡ k)
-        → seen_in k (next_in w (room_report o m r output)) ≡ next (seen_in k w) (event_in k w (room_report o m r output))
+        → seen_in k (next_in w (room_report o m r output))
+        ≡ next (seen_in k w) (event_in k w (room_report o m r output))
     go (yes q) = rw (eq-eqb m k q) (answered_here k w o _ _ m q (report_here k l w o (h o v) m q r output))
     go (no n) =
         let s : (report_answer_in w o m r output).table k ≡ w.table o k

@@ -13,7 +13,8 @@ use Rattle.records.specs.declared.Report.{Report}
 use Rattle.rules.specs.MarkFile.{last_in, last_high, all_high, is_high, may_follow, good_file, high_bytes}
 use Rattle.rules.specs.Leaving.{puts_all, actions_from, file_after, left_in}
 use Rattle.rules.specs.Refusals.{full_room, a_report, restart_checks, restart_of}
-use Rattle.rules.specs.Tables.{Table, fresh_table, restarted_table, well_table, restart_table, barred, act_table, take_table}
+use Rattle.rules.specs.Tables.{Table, fresh_table, restarted_table, well_table, restart_table, barred, act_table}
+use Rattle.rules.specs.Tables.{take_table}
 use Rattle.rules.specs.Days.{given}
 use Rattle.runs.specs.Office.{of_proposal, of_notice, picked, entire, broken}
 use Rattle.runs.specs.World.{WorldEvent, report, delivery, loss, cut, nothing_begun, begun_report, begun_delivery}
@@ -35,8 +36,9 @@ joins x = report_of x 0
 
 -- what a room sees of a list from fresh tables; who unfolds this unfolds the world of rooms
 unfoldable pub seen_by : ℕ → List RoomsEvent → List WorldEvent
-unfolding given take_table act_table barred well_table of_room answered_in with_link_in idle_in report_answer_in proposal_answer_in
-    begun_room begun_writes_in taken_up_in cut_answer_in next_in seen_in begun_seen event_in events_in
+unfolding given take_table act_table barred well_table of_room answered_in with_link_in idle_in report_answer_in
+    proposal_answer_in begun_room begun_writes_in taken_up_in cut_answer_in next_in seen_in begun_seen event_in
+    events_in
 seen_by k es = events_in k (rooms_first fresh_table (λ i j. [])) es
 
 -- Office 0 is told of the seats 0 and 4 in room 0 and in room 1, then of seat 8 in room 1: three proposals are on the
@@ -61,7 +63,8 @@ seen_in_0 = refl
 pub seen_in_1 :
     seen_by 1 played
     ≡ loss 0 1 0 ∷ report 0 (joins 0b10001) full_room ∷ report 0 (joins 0b100000000) full_room ∷ loss 0 1 0 ∷ loss 0 1 1
-    ∷ cut 0 nothing_begun 1 7 ∷ cut 1 (begun_delivery 0 full_room) 0 7 ∷ delivery 0 1 full_room ∷ loss 0 1 0 ∷ loss 0 1 0
+    ∷ cut 0 nothing_begun 1 7 ∷ cut 1 (begun_delivery 0 full_room) 0 7 ∷ delivery 0 1 full_room ∷ loss 0 1 0
+    ∷ loss 0 1 0
     ∷ []
 unfolding seen_by
 seen_in_1 = refl
@@ -89,8 +92,8 @@ rooms_of_0 = refl then refl then refl then refl then refl then refl then refl
 -- The events that a list with files is, the files empty at first; who unfolds this unfolds what a server does to its
 -- file.
 unfoldable pub filed_by : (ℕ → Table) → List RoomFileEvent → List RoomsEvent
-unfolding seen_by plainly_in next_filed_in done_in actions_from puts_all file_after left_in high_bytes encode_high decode_high
-    pieces last_in last_high
+unfolding seen_by plainly_in next_filed_in done_in actions_from puts_all file_after left_in high_bytes encode_high
+    decode_high pieces last_in last_high
 filed_by tables fs = plainly_in (filed_rooms tables (λ i j. []) (λ i. [])) fs
 
 -- Office 0 begins at 1,500,000 in every room, office 1 is fresh; both are told in room 1. A report of office 1 writes
@@ -120,15 +123,16 @@ turns = serves_all (told 0) ∷ stops_after (told 1) 1 ∷ serves_all (told 1) �
 
 -- the start numbers and the proposal numbers that left in a room
 abbrev left_of : ℕ → List (List ℕ)
-left_of k = let ws = of_room k (server_left 0 (fresh_server 0) turns) in picked of_notice ws ∷ picked of_proposal ws ∷ []
+left_of k =
+    let ws = of_room k (server_left 0 (fresh_server 0) turns) in picked of_notice ws ∷ picked of_proposal ws ∷ []
 
 pub left_in_rooms :
     left_of 0 ∷ left_of 1 ∷ left_of 2 ∷ ((server_after 0 (fresh_server 0) turns).file ∷ []) ∷ []
     ≡ ((1 ∷ 1_000_002 ∷ []) ∷ (1 ∷ 1_000_002 ∷ []) ∷ []) ∷ ((1 ∷ 1_000_002 ∷ []) ∷ (1_000_002 ∷ []) ∷ [])
     ∷ ([] ∷ [] ∷ []) ∷ ((high_bytes 1_000_001 ++ high_bytes 2_000_002) ∷ []) ∷ []
-unfolding given take_table act_table barred well_table restart_table restart_of restart_checks answer_table done_by next_server
-    server_left of_room picked runs actions_from puts_all file_after left_in good_file all_high is_high may_follow high_bytes
-    encode_high decode_high pieces last_in last_high
+unfolding given take_table act_table barred well_table restart_table restart_of restart_checks answer_table done_by
+    next_server server_left of_room picked runs actions_from puts_all file_after left_in good_file all_high is_high
+    may_follow high_bytes encode_high decode_high pieces last_in last_high
 left_in_rooms = refl then refl then refl then refl then refl
 
 -- the turns of one office that they are
@@ -136,7 +140,7 @@ pub turns_in_rooms :
     turns_in 0 0 (fresh_server 0) turns ∷ turns_in 0 1 (fresh_server 0) turns ∷ []
     ≡ (entire (input_of (told 0)) ∷ broken (input_of (told 1)) 0 1_000_001 ∷ entire (input_of (told 0)) ∷ [])
     ∷ (broken (input_of (told 1)) 1 1_000_001 ∷ entire (input_of (told 1)) ∷ []) ∷ []
-unfolding given take_table act_table barred well_table restart_table restart_of restart_checks answer_table done_by next_server
-    turn_in turns_in actions_from puts_all file_after left_in good_file all_high is_high may_follow high_bytes encode_high
-    decode_high pieces last_in last_high
+unfolding given take_table act_table barred well_table restart_table restart_of restart_checks answer_table done_by
+    next_server turn_in turns_in actions_from puts_all file_after left_in good_file all_high is_high may_follow
+    high_bytes encode_high decode_high pieces last_in last_high
 turns_in_rooms = refl then refl then refl

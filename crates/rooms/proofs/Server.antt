@@ -27,8 +27,8 @@ use Rattle.rule_laws.proofs.Steps.{fresh_well, restarted_well}
 use Rattle.rule_laws.proofs.Leaving.{take_largest, no_marks_lem, order_passes, Covering, covering_above, part_covers}
 use Rattle.rule_laws.proofs.Leaving.{all_covers}
 use Rattle.rule_laws.proofs.Tables.{well_rooms, table_written}
-use Rattle.runs.specs.Office.{Input, answer_to, next_state, Turn, entire, broken, handed_at, left_at, next_turn, left_over}
-use Rattle.runs.specs.Office.{TurnAbove, TurnsAbove, no_turn, a_turn, NumbersOnce}
+use Rattle.runs.specs.Office.{Input, answer_to, next_state, Turn, entire, broken, handed_at, left_at, next_turn}
+use Rattle.runs.specs.Office.{left_over, TurnAbove, TurnsAbove, no_turn, a_turn, NumbersOnce}
 use Rattle.runs.proofs.OfficeViews.{answer_ends}
 use Rattle.runs.proofs.OfficeGiven.{numbers_once}
 use Rattle.runs.proofs.FilesOnce.{good_restart}
@@ -197,7 +197,8 @@ module _ (own : ℕ) (lt : own < 16) (k : ℕ) (lk : k < room_count) where
         again = ap (λ (t : Table). t k) (restart_is h n) ∙ ap (λ (o : ℕ). restarted o m) (sym c.office)
 
         -- all that left in room k is at or below m
-        above : (ws : List Written) → leaves_now u ≡ ws → Every (λ w. own_number w ≤ m) (of_room k l ++ ws) × (m ≤ limit)
+        above : (ws : List Written) → leaves_now u ≡ ws
+            → Every (λ w. own_number w ≤ m) (of_room k l ++ ws) × (m ≤ limit)
         above ws e =
             let x = covering_above (λ x. x.what) (file_by s u) (left_now u) (covers_after u) in (
               subst (Every (λ w. own_number w ≤ m))

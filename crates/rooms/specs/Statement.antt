@@ -38,7 +38,8 @@ module _ (tables : ℕ → Table) (links : ℕ → ℕ → List (Roomed Item)) w
     pub record ReadIn (k : ℕ) (Says : (ℕ → State) → (ℕ → ℕ → List Item) → List WorldEvent → Type 0) : Type 0 where
       -- at every point of the list, the world of rooms shows in room k the world that the statement speaks of
       pub shows : (n : ℕ)
-          → seen_in k (rooms_at (rooms_first tables links) es n) ≡ at (at_first (states_in k) (links_in k)) (list_in k) n
+          → seen_in k (rooms_at (rooms_first tables links) es n)
+          ≡ at (at_first (states_in k) (links_in k)) (list_in k) n
       pub holds : Says (states_in k) (links_in k) (list_in k)
 
     -- demand 3 in room k, where no server is cut off

@@ -13,16 +13,14 @@ use Rattle.records.specs.declared.Report.{Report}
 use Rattle.records.specs.declared.Proposal.{Proposal}
 use Rattle.rules.specs.State.{Mode, None, Fast, Slow, Slot, State, keeping, stored_at, used_for, number_in}
 use Rattle.rules.specs.Rules.{and_then, with_net, opened, opens, next_number, own_proposal, proposed, proposes_fast}
-use Rattle.rules.specs.Rules.{received}
-use Rattle.rules.specs.Rules.{slow_number, begins_in, proposes_slow, agreed, start_of, view_of, concluded, report_rule}
-use Rattle.rules.specs.Rules.{proposal_rule}
+use Rattle.rules.specs.Rules.{received, slow_number, begins_in, proposes_slow, agreed, start_of, view_of, concluded}
+use Rattle.rules.specs.Rules.{report_rule, proposal_rule}
 use Rattle.records.specs.Numbers.{limit}
 use Rattle.rules.specs.Refusals.{well_formed, a_report, a_proposal}
 use Rattle.rules.specs.Bounds.{SlotCapped, Capped, low}
 use Rattle.rule_laws.proofs.Parts.{proposed_reads, received_reads}
 use Rattle.rule_laws.proofs.Tests.{NumberFrom, joins, starts, slow_number_lem, agreed_out}
-use Rattle.rule_laws.proofs.Walk.{arrived, slow_round, concludes, then_state, Tested, staged_report}
-use Rattle.rule_laws.proofs.Walk.{staged_proposal}
+use Rattle.rule_laws.proofs.Walk.{arrived, slow_round, concludes, then_state, Tested, staged_report, staged_proposal}
 use Rattle.rule_laws.proofs.Ceiling.{made_well}
 
 slot_le : {a b : ℕ} (c d : ℕ) {v : Slot} → a ≤ c → b ≤ d → SlotCapped a b v → SlotCapped c d v

@@ -15,9 +15,8 @@ use Rattle.records.specs.declared.Proposal.{Proposal}
 use Rattle.records.specs.declared.View.{View}
 use Rattle.rules.specs.State.{Mode, Fast, Slow, Slot, State, nothing, keeping, stored_at, used_at}
 use Rattle.rules.specs.Rules.{Written, notice, proposal, view, Outcome, nothing_written, and_then, opened, notice_of}
-use Rattle.rules.specs.Rules.{opens, next_number, own_proposal}
-use Rattle.rules.specs.Rules.{proposed, proposes_fast, slow_number, proposes_slow, in_slot, agreed, start_of, view_of}
-use Rattle.rules.specs.Rules.{concluded}
+use Rattle.rules.specs.Rules.{opens, next_number, own_proposal, proposed, proposes_fast, slow_number, proposes_slow}
+use Rattle.rules.specs.Rules.{in_slot, agreed, start_of, view_of, concluded}
 use Rattle.rules.specs.Refusals.{Event, event_of, rule_of, step_of}
 use Rattle.rule_laws.proofs.Parts.{opened_reads, proposed_reads, concluded_reads}
 use Rattle.rule_laws.proofs.Tests.{agreed_out}
@@ -91,7 +90,8 @@ keeps_fast s = keeps_proposed s Fast (next_number s) _ (fast_every NoView s tt)
 
 keeps_slow : (s : State) → Keeps s (proposes_slow s)
 unfolding proposes_slow
-keeps_slow s = keeps_proposed s Slow (slow_number s) _ (more {a = proposal (own_proposal Slow (slow_number s) s)} tt none)
+keeps_slow s =
+    keeps_proposed s Slow (slow_number s) _ (more {a = proposal (own_proposal Slow (slow_number s) s)} tt none)
 
 -- what is there, is kept as a proposal
 is_keeping : (v : Slot) → v.present ≡ true → v ≡ keeping v.proposal

@@ -21,7 +21,8 @@ unfolding event_of mark_of encode_report
 report_event room r f = ap a_report (report_back room r f)
 
 -- any proposal, as its bytes are read; its sender stays
-pub proposal_event : (room : ℕ) (p : Proposal) → event_of (encode_proposal room p) ≡ a_proposal (decode_proposal (encode_proposal room p))
+pub proposal_event : (room : ℕ) (p : Proposal)
+    → event_of (encode_proposal room p) ≡ a_proposal (decode_proposal (encode_proposal room p))
 unfolding event_of
 proposal_event room p = rw (mark_proposal room p)
 

@@ -12,8 +12,8 @@ use Rattle.records.specs.Layout.{decode_report, decode_proposal}
 use Rattle.records.proofs.CheckLaws.{own_mark}
 use Rattle.rules.specs.State.{State}
 use Rattle.rules.specs.Rules.{fresh}
-use Rattle.rules.specs.Refusals.{well_formed, made_of, Event, a_report, a_proposal, event_of, refusal_of, rule_of, accepting}
-use Rattle.rules.specs.Refusals.{act_of, all_bytes}
+use Rattle.rules.specs.Refusals.{well_formed, made_of, Event, a_report, a_proposal, event_of, refusal_of, rule_of}
+use Rattle.rules.specs.Refusals.{accepting, act_of, all_bytes}
 use Rattle.rule_laws.proofs.Steps.{fresh_well}
 
 -- 1

@@ -25,8 +25,8 @@ use Rattle.rules.specs.State.{State, used_for}
 use Rattle.rules.specs.Rules.{Written, notice, proposal, view}
 use Rattle.rules.specs.Refusals.{Event, take_of}
 use Rattle.rule_laws.proofs.Written.{RecordWithin, take_within}
-use Rattle.rules.specs.Leaving.{largest_in, own_number, Action, puts, leaves, puts_all, actions_from, with_byte, file_after}
-use Rattle.rules.specs.Leaving.{actions_of, left_in}
+use Rattle.rules.specs.Leaving.{largest_in, own_number, Action, puts, leaves, puts_all, actions_from, with_byte}
+use Rattle.rules.specs.Leaving.{file_after, actions_of, left_in}
 
 -- actions one after another
 file_append : (f : List ℕ) (a b : List Action) → file_after f (a ++ b) ≡ file_after (file_after f a) b
@@ -293,7 +293,8 @@ leaves_from (v ∷ ws) f bs t w g z (more l ls) n =
 left_all : (last place : ℕ) (ws : List Written) → left_in (actions_from last place ws) ≡ ws
 unfolding actions_from left_in
 left_all last place [] = refl
-left_all last place (v ∷ ws) = go (ltb last (largest_in v)) (left_all (next_high (largest_in v)) (place + high_length) ws)
+left_all last place (v ∷ ws) =
+    go (ltb last (largest_in v)) (left_all (next_high (largest_in v)) (place + high_length) ws)
     (left_all last place ws)
   where
     m : ℕ

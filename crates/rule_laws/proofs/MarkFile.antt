@@ -15,8 +15,8 @@ use Rattle.laws.specs.Upd.{ifb}
 use Rattle.laws.proofs.Big.{digits4}
 use Rattle.records.specs.Numbers.{limit, within}
 use Rattle.records.specs.Layout.{high_length, encode_high, decode_high}
-use Rattle.rules.specs.MarkFile.{gap, file_limit, whole_count, whole_end, wholes, may_follow, high_number, is_high, all_high}
-use Rattle.rules.specs.MarkFile.{last_in, last_high, good_file, next_high, high_bytes}
+use Rattle.rules.specs.MarkFile.{gap, file_limit, whole_count, whole_end, wholes, may_follow, high_number, is_high}
+use Rattle.rules.specs.MarkFile.{all_high, last_in, last_high, good_file, next_high, high_bytes}
 
 -- records end to end
 abbrev pub flat : List (List ℕ) → List ℕ

@@ -9,10 +9,10 @@ use Rattle.records.specs.Fits.{FitsReport}
 use Rattle.records.specs.declared.Report.{Report}
 use Rattle.records.specs.declared.Proposal.{Proposal}
 use Rattle.records.specs.declared.View.{View}
-use Rattle.rules.specs.State.{Mode, None, Slot, State, kind_of, nothing, keeping, stored_at, accepted_at, used_at, used_for}
-use Rattle.rules.specs.State.{number_in}
-use Rattle.rules.specs.Rules.{fresh, restarted, net_after, with_net, opened, own_proposal, proposed, received, concluded}
-use Rattle.rules.specs.Rules.{view_of}
+use Rattle.rules.specs.State.{Mode, None, Slot, State, kind_of, nothing, keeping, stored_at, accepted_at, used_at}
+use Rattle.rules.specs.State.{used_for, number_in}
+use Rattle.rules.specs.Rules.{fresh, restarted, net_after, with_net, opened, own_proposal, proposed, received}
+use Rattle.rules.specs.Rules.{concluded, view_of}
 
 -- the parts of a state, those of an office o for every o below 16
 pub record Reads (t : State) (own : ℕ) (mode : Mode) (net : ℕ) (stored : ℕ → Slot) (accepted : ℕ → ℕ) (view : View)

@@ -11,9 +11,9 @@ use Rattle.laws.proofs.Checks.{first_by}
 use Rattle.laws.proofs.Fin.{if_cases, as-facts}
 use Rattle.records.specs.Layout.{form_of, check_for, check_of}
 use Rattle.rules.specs.State.{State}
-use Rattle.rules.specs.Refusals.{well_formed, full_room, Made, made_of, read_checks, read_check, Event, a_report, a_proposal}
-use Rattle.rules.specs.Refusals.{event_of, form_checks, form_refusal, reading_checks, read_number, proposal_checks}
-use Rattle.rules.specs.Refusals.{refusal_of, rule_of, Result, accepting, act_of, act_with, step_of}
+use Rattle.rules.specs.Refusals.{well_formed, full_room, Made, made_of, read_checks, read_check, Event, a_report}
+use Rattle.rules.specs.Refusals.{a_proposal, event_of, form_checks, form_refusal, reading_checks, read_number}
+use Rattle.rules.specs.Refusals.{proposal_checks, refusal_of, rule_of, Result, accepting, act_of, act_with, step_of}
 
 -- 0, from 1 to 13, 19 or 20
 pub data Answer (n : ℕ) : Type 0 where
@@ -34,7 +34,8 @@ checked_answer b =
 
 pub read_answer : (b : List ℕ) → Answer (read_check b)
 unfolding read_check
-read_answer b = first_by Answer (accepts refl) (read_checks b) (more (λ e. checked_answer b) (more (λ e. no_room refl) none))
+read_answer b =
+    first_by Answer (accepts refl) (read_checks b) (more (λ e. checked_answer b) (more (λ e. no_room refl) none))
 
 form_answer : (office : ℕ) (e : Event) → Answer (form_refusal office e)
 form_answer office (a_report r) = accepts refl

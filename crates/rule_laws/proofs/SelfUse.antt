@@ -23,11 +23,10 @@ use Rattle.records.proofs.RoundTrip.{proposal_back}
 use Rattle.rules.specs.State.{State, used_for}
 use Rattle.rules.specs.Rules.{Written, notice, proposal, view}
 use Rattle.rules.specs.Refusals.{read_checks, read_check, uses_itself, form_checks, reading_checks, read_number}
-use Rattle.rules.specs.Refusals.{proposal_checks, a_proposal, event_of, well_formed, full_room, refusal_of, rule_of, Result}
-use Rattle.rules.specs.Refusals.{accepting, act_of, act_with, take_of, step_of, bytes_of}
+use Rattle.rules.specs.Refusals.{proposal_checks, a_proposal, event_of, well_formed, full_room, refusal_of, rule_of}
+use Rattle.rules.specs.Refusals.{Result, accepting, act_of, act_with, take_of, step_of, bytes_of}
 use Rattle.rule_laws.proofs.Encoded.{proposal_event}
-use Rattle.rule_laws.proofs.Steps.{Refused, Takes, check_facts, take_cases, read_facts, reading_facts}
-use Rattle.rule_laws.proofs.Steps.{step_takes}
+use Rattle.rule_laws.proofs.Steps.{Refused, Takes, check_facts, take_cases, read_facts, reading_facts, step_takes}
 
 module _ (s : State) (p : Proposal) where
   form_not_19 : (office : ℕ) → uses_itself p ≡ false → eqb (first_of (form_checks office p)) 19 ≡ false

@@ -17,8 +17,7 @@ use Rattle.records.specs.declared.Proposal.{Proposal}
 use Rattle.records.proofs.OwnChecks.{used_sixteen}
 use Rattle.rules.specs.State.{Mode, Fast, Slow, Slot, State, nothing, keeping, stored_at}
 use Rattle.rules.specs.Rules.{Outcome, and_then, with_net, opened, opens, own_proposal, proposed, next_number}
-use Rattle.rules.specs.Rules.{proposes_fast, received, slow_number, proposes_slow}
-use Rattle.rules.specs.Rules.{view_of, concluded, net_after}
+use Rattle.rules.specs.Rules.{proposes_fast, received, slow_number, proposes_slow, view_of, concluded, net_after}
 use Rattle.rules.specs.Refusals.{Event, a_report, a_proposal, event_of, rule_of}
 use Rattle.rule_laws.proofs.Walk.{Walk, walk_event}
 

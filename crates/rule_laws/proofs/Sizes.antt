@@ -13,7 +13,8 @@ use Rattle.laws.proofs.Tab.{length_tab}
 use Rattle.laws.specs.Upd.{ifb, upd}
 use Rattle.laws.proofs.Upd.{upd_same, upd_other}
 use Rattle.seats.specs.Offices.{serves}
-use Rattle.records.specs.Layout.{notice_length, proposal_length, view_length, encode_notice, encode_proposal, encode_view}
+use Rattle.records.specs.Layout.{notice_length, proposal_length, view_length, encode_notice, encode_proposal}
+use Rattle.records.specs.Layout.{encode_view}
 use Rattle.records.proofs.Lengths.{proposal_length_lem, notice_length_lem, view_length_lem}
 use Rattle.records.specs.declared.Report.{Report}
 use Rattle.records.specs.declared.Proposal.{Proposal}
@@ -22,7 +23,8 @@ use Rattle.rules.specs.Rules.{Written, notice, proposal, view, Outcome, and_then
 use Rattle.rules.specs.Rules.{notice_of, next_number, own_proposal, proposed, receives, has_recipient, proposes_fast}
 use Rattle.rules.specs.Rules.{begins_in, slow_number, proposes_slow, is_none, agreed, view_of, change_rule, report_rule}
 use Rattle.rules.specs.Rules.{proposal_rule}
-use Rattle.rules.specs.Refusals.{full_room, Event, a_report, a_proposal, event_of, rule_of, step_of, bytes_of, all_bytes, size}
+use Rattle.rules.specs.Refusals.{full_room, Event, a_report, a_proposal, event_of, rule_of, step_of, bytes_of}
+use Rattle.rules.specs.Refusals.{all_bytes, size}
 use Rattle.rule_laws.proofs.Steps.{Refused, Accepts, step_cases, step_accepts}
 use Rattle.rule_laws.proofs.Walk.{slow_round, concludes, then_state, Tested, staged_change, staged_proposal}
 use Rattle.rule_laws.proofs.Monotone.{next_above_stored}
@@ -216,7 +218,8 @@ alone p e o l q = let a = anyb_none 16 (receives p) e o l in simp (q, as-facts) 
 -- a report: nothing, or a notice and then a fast proposal, a slow one, a view
 abbrev pub report_sizes : List ℕ
 report_sizes =
-    0 ∷ (notice_length + view_length) ∷ (notice_length + proposal_length) ∷ (notice_length + proposal_length + view_length)
+    0 ∷ (notice_length + view_length) ∷ (notice_length + proposal_length)
+    ∷ (notice_length + proposal_length + view_length)
     ∷ (notice_length + proposal_length + proposal_length) ∷ []
 
 -- to a recipient, with a slow proposal, with a view

@@ -22,11 +22,10 @@ use Rattle.records.specs.declared.Proposal.{Proposal}
 use Rattle.rules.specs.State.{Slot, State, fast, slow, stored_at, accepted_at, used_at, used_for}
 use Rattle.rules.specs.Rules.{Written, fresh, restarted}
 use Rattle.rule_laws.proofs.Parts.{restarted_reads, restarted_view, fresh_restarted}
-use Rattle.rules.specs.Refusals.{full_room, slot_within, well_formed, read_check, Event, event_of}
-use Rattle.rules.specs.Refusals.{wrong_sender, wrong_kind, form_refusal, read_number}
-use Rattle.rules.specs.Refusals.{wrong_number, without_seat, stray_used, uses_itself, not_above, used_ahead}
-use Rattle.rules.specs.Refusals.{proposal_checks, refusal_of, rule_of, Result, refused, accepted, accepting, act_of}
-use Rattle.rules.specs.Refusals.{act_with, take_of, step_of}
+use Rattle.rules.specs.Refusals.{full_room, slot_within, well_formed, read_check, Event, event_of, wrong_sender}
+use Rattle.rules.specs.Refusals.{wrong_kind, form_refusal, read_number, wrong_number, without_seat, stray_used}
+use Rattle.rules.specs.Refusals.{uses_itself, not_above, used_ahead, proposal_checks, refusal_of, rule_of, Result}
+use Rattle.rules.specs.Refusals.{refused, accepted, accepting, act_of, act_with, take_of, step_of}
 
 -- what a stored proposal that passes check 2 satisfies
 pub record SlotWithin (v : Slot) : Type 0 where
@@ -210,7 +209,8 @@ act_with_cases : (s : State) (e : Event) (output : ℕ) → Refused s (act_with 
 unfolding act_with
 act_with_cases s e output = go (well_formed s) refl (ltb output full_room) refl (act_cases s e)
   where
-    go : (t : Bool) → well_formed s ≡ t → (u : Bool) → ltb output full_room ≡ u → Refused s (act_of s e) ⊎ AcceptsEvent s e
+    go : (t : Bool) → well_formed s ≡ t → (u : Bool) → ltb output full_room ≡ u
+        → Refused s (act_of s e) ⊎ AcceptsEvent s e
         → Refused s (act_with s e output) ⊎ ActsWith s e output
     go false p u q a = inl (rw p (record { reason = omega arith; is = refl }))
     go true p true q a = inl (rw (p, q) (record { reason = omega arith; is = refl }))

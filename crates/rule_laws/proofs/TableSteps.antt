@@ -13,8 +13,8 @@ use Rattle.laws.proofs.Fin.{if_cases}
 use Rattle.records.specs.Numbers.{room_count}
 use Rattle.records.specs.Layout.{check_of, room_of}
 use Rattle.rules.specs.State.{State}
-use Rattle.rules.specs.Refusals.{well_formed, full_room, read_check, read_number, form_refusal, event_of, step_of, accepted}
-use Rattle.rules.specs.Refusals.{rule_of, all_bytes, size}
+use Rattle.rules.specs.Refusals.{well_formed, full_room, read_check, read_number, form_refusal, event_of, step_of}
+use Rattle.rules.specs.Refusals.{accepted, rule_of, all_bytes, size}
 use Rattle.rules.specs.Tables.{Table, well_table, RoomEvent, TableResult, refused_table, in_table, act_table, no_event}
 use Rattle.rules.specs.Tables.{record_event, read_of, step_table, room_check, take_table}
 use Rattle.rule_laws.proofs.Steps.{Refused, Accepts, read_facts, reading_facts, step_cases, step_accepts}
@@ -90,7 +90,8 @@ module _ (office : ℕ) (t : Table) (b : List ℕ) (output : ℕ) where
       number : read_number office (room_check (room_of b)) (event_of b) ≡ (read_of office b).refusal
       number = rw found (sym (read_refusal office b ∙ ap (λ (n : ℕ). read_number office n (event_of b)) e))
 
-      go : Dec ((read_of office b).refusal ≡ 0) → step_table office t b output ≡ take_table office t (record_event b) output
+      go : Dec ((read_of office b).refusal ≡ 0)
+          → step_table office t b output ≡ take_table office t (record_event b) output
       go (yes z) = step_acts z ∙ (unfold take_table in rw (number, z))
       go (no n) = step_unread n ∙ (unfold take_table in rw (number, ne_eqb (read_of office b).refusal 0 n))
 

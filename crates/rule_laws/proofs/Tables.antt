@@ -17,8 +17,8 @@ use Rattle.rules.specs.Rules.{Written, fresh, restarted}
 use Rattle.rules.specs.MarkFile.{last_high}
 use Rattle.rules.specs.Refusals.{well_formed, restart_of, full_room, read_number, Result, refused, act_of, act_with}
 use Rattle.rules.specs.Refusals.{take_of}
-use Rattle.rules.specs.Tables.{Table, restarted_table, well_table, restart_table, RoomEvent}
-use Rattle.rules.specs.Tables.{TableResult, refused_table, shown_in, in_table, barred, act_table, room_check, take_table}
+use Rattle.rules.specs.Tables.{Table, restarted_table, well_table, restart_table, RoomEvent, TableResult, refused_table}
+use Rattle.rules.specs.Tables.{shown_in, in_table, barred, act_table, room_check, take_table}
 use Rattle.rule_laws.proofs.Parts.{restarted_reads, restarted_view}
 use Rattle.rule_laws.proofs.Reasons.{Answer, accepts, no_room, reason, act_answer}
 use Rattle.rule_laws.proofs.Steps.{reading_facts, take_well}

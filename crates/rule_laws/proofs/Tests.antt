@@ -12,8 +12,8 @@ use Rattle.laws.proofs.Fin.{anyb_out, anyb_none, largest_max, largest_le, if_cas
 use Rattle.laws.specs.Upd.{ifb}
 use Rattle.seats.specs.Offices.{serves}
 use Rattle.rules.specs.State.{Mode, None, Fast, Slow, State, slow, kind_of, stored_at, used_for}
-use Rattle.rules.specs.Rules.{in_slot, matching, matching_slow, above_own, uses_own, called_in, slow_called, joined_number}
-use Rattle.rules.specs.Rules.{next_number, slow_number, agrees_kind, agrees_in, is_none, agreed}
+use Rattle.rules.specs.Rules.{in_slot, matching, matching_slow, above_own, uses_own, called_in, slow_called}
+use Rattle.rules.specs.Rules.{joined_number, next_number, slow_number, agrees_kind, agrees_in, is_none, agreed}
 use Rattle.rule_laws.proofs.Modes.{busy_is, is_busy}
 
 module _ (s : State) where

@@ -19,10 +19,10 @@ use Rattle.records.specs.Numbers.{room_count, room_above}
 use Rattle.records.specs.declared.Proposal.{Proposal}
 use Rattle.records.proofs.RoundTrip.{report_room, proposal_room, report_checked, proposal_checked, proposal_back}
 use Rattle.rules.specs.State.{State}
-use Rattle.rules.specs.Refusals.{well_formed, full_room, read_check, Event, a_report, a_proposal, event_of, wrong_sender}
-use Rattle.rules.specs.Refusals.{wrong_kind, wrong_number, without_seat, stray_used, uses_itself, form_checks, form_refusal}
-use Rattle.rules.specs.Refusals.{read_number, state_checks, proposal_checks, refusal_of, rule_of, Result, refused}
-use Rattle.rules.specs.Refusals.{accepting, act_of, take_of}
+use Rattle.rules.specs.Refusals.{well_formed, full_room, read_check, Event, a_report, a_proposal, event_of}
+use Rattle.rules.specs.Refusals.{wrong_sender, wrong_kind, wrong_number, without_seat, stray_used, uses_itself}
+use Rattle.rules.specs.Refusals.{form_checks, form_refusal, read_number, state_checks, proposal_checks, refusal_of}
+use Rattle.rules.specs.Refusals.{rule_of, Result, refused, accepting, act_of, take_of}
 use Rattle.rules.specs.Tables.{Table, well_table, RoomEvent, refused_table, in_table, act_table, no_event, record_event}
 use Rattle.rules.specs.Tables.{read_of, barred, step_table, room_check, take_table}
 use Rattle.rules.specs.Turns.{undivided, event_bytes, FitsEvent, forms_of, office_checks, states_of, ceiling_of}
@@ -252,7 +252,8 @@ module _ (office : ℕ) (t : Table) (b : List ℕ) (output : ℕ) where
       record { number = 2; applies = not (well_table t) } ∷ record { number = 3; applies = ltb output full_room }
       ∷ (office_checks state.own event ++ (states_of state event ++ ceiling_of state event))
 
-  acts_in_order : room_above (room_of b) ≡ false → form ≡ 0 → (act_table t (record_event b) output).refusal ≡ first_of acted
+  acts_in_order : room_above (room_of b) ≡ false → form ≡ 0
+      → (act_table t (record_event b) output).refusal ≡ first_of acted
   acts_in_order a z = go (well_table t) refl (ltb output full_room) refl
     where
       go : (u : Bool) → well_table t ≡ u → (v : Bool) → ltb output full_room ≡ v

@@ -11,9 +11,8 @@ use Rattle.records.specs.declared.Report.{Report}
 use Rattle.records.specs.declared.Proposal.{Proposal}
 use Rattle.rules.specs.State.{Mode, None, Fast, Slow, State, used_at}
 use Rattle.rules.specs.Rules.{Written, view, Outcome, nothing_written, and_then, net_after, with_net, repeats, seated}
-use Rattle.rules.specs.Rules.{opened, opens, proposes_fast, received}
-use Rattle.rules.specs.Rules.{slow_called, begins_in, proposes_slow, slow_test, agreed, view_of, concluded, agreement_test}
-use Rattle.rules.specs.Rules.{tests, change_rule, report_rule}
+use Rattle.rules.specs.Rules.{opened, opens, proposes_fast, received, slow_called, begins_in, proposes_slow, slow_test}
+use Rattle.rules.specs.Rules.{agreed, view_of, concluded, agreement_test, tests, change_rule, report_rule}
 use Rattle.rules.specs.Rules.{proposal_rule}
 use Rattle.rules.specs.Refusals.{Event, a_report, a_proposal, rule_of}
 use Rattle.rule_laws.proofs.Parts.{with_net_reads, received_reads}
@@ -157,7 +156,8 @@ pub record Walk (Q P : State → Outcome → Type 0) : Type 0 where
 
 module _ {Q P : State → Outcome → Type 0} (w : Walk Q P) where
   -- the slow proposal, in the state that the beginning leaves
-  walk_called : (m : Mode) (s : State) → s.mode ≡ m → slow_called s ≡ true → Q s (and_then (begins_in m s) proposes_slow)
+  walk_called : (m : Mode) (s : State) → s.mode ≡ m → slow_called s ≡ true
+      → Q s (and_then (begins_in m s) proposes_slow)
   unfolding opens
   walk_called None s e c =
       w.chain s (opens s) proposes_slow (w.opening s (on_call e c)) (w.slowly (opened s) (after_opening s e c refl))

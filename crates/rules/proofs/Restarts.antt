@@ -28,8 +28,8 @@ pub restarts :
     ∷ seen_of (restart_of 3 (high_bytes 0)) ∷ seen_of (restart_of 16 (high_bytes 0)) ∷ []
     ≡ (0 ∷ 3 ∷ 0 ∷ 0 ∷ 0 ∷ []) ∷ (0 ∷ 3 ∷ 1_000_001 ∷ 1_000_001 ∷ 1_000_001 ∷ []) ∷ (0 ∷ 3 ∷ 7 ∷ 7 ∷ 7 ∷ [])
     ∷ (18 ∷ 0 ∷ 0 ∷ 0 ∷ 0 ∷ []) ∷ (1 ∷ 0 ∷ 0 ∷ 0 ∷ 0 ∷ []) ∷ []
-unfolding restart_of restart_checks good_file all_high is_high may_follow last_high last_in pieces high_bytes encode_high
-    decode_high restarted fresh
+unfolding restart_of restart_checks good_file all_high is_high may_follow last_high last_in pieces high_bytes
+    encode_high decode_high restarted fresh
 restarts = refl then refl then refl then refl then refl then refl
 
 -- all numbers of four bytes count: a used number above the proposal's own, a start number of another office above the
@@ -56,7 +56,8 @@ abbrev begins : ℕ → Written
 begins n = notice (record { start = n; members = record { bits = 0b10001 } })
 
 pub largests :
-    largest_in (begins 5) ∷ largest_in (proposes 0) ∷ largest_in (proposes 9) ∷ largest_in (shows 0) ∷ largest_in (shows 9)
+    largest_in (begins 5) ∷ largest_in (proposes 0) ∷ largest_in (proposes 9) ∷ largest_in (shows 0)
+    ∷ largest_in (shows 9)
     ∷ []
     ≡ 5 ∷ 3 ∷ 9 ∷ 4 ∷ 9 ∷ []
 unfolding largest tab

@@ -39,13 +39,14 @@ tables_made = refl then refl then refl
 
 -- a mark of 7: every room begins there; a file that is no mark
 pub tables_restarted :
-    rooms (restarted_table 3 7) ∷ made_rooms (restart_table 3 (high_bytes 7)) ∷ made_rooms (restart_table 3 (high_bytes 0))
+    rooms (restarted_table 3 7) ∷ made_rooms (restart_table 3 (high_bytes 7))
+    ∷ made_rooms (restart_table 3 (high_bytes 0))
     ∷ []
     ≡ ((3 ∷ 0 ∷ 7 ∷ 7 ∷ 7 ∷ []) ∷ (3 ∷ 0 ∷ 7 ∷ 7 ∷ 7 ∷ []) ∷ (3 ∷ 0 ∷ 7 ∷ 7 ∷ 7 ∷ []) ∷ [])
     ∷ ((0 ∷ []) ∷ (3 ∷ 0 ∷ 7 ∷ 7 ∷ 7 ∷ []) ∷ (3 ∷ 0 ∷ 7 ∷ 7 ∷ 7 ∷ []) ∷ (3 ∷ 0 ∷ 7 ∷ 7 ∷ 7 ∷ []) ∷ [])
     ∷ ((18 ∷ []) ∷ (0 ∷ 0 ∷ 0 ∷ 0 ∷ 0 ∷ []) ∷ (0 ∷ 0 ∷ 0 ∷ 0 ∷ 0 ∷ []) ∷ (0 ∷ 0 ∷ 0 ∷ 0 ∷ 0 ∷ []) ∷ []) ∷ []
-unfolding given restart_table restart_of restart_checks good_file all_high is_high may_follow last_high last_in pieces high_bytes
-    encode_high decode_high
+unfolding given restart_table restart_of restart_checks good_file all_high is_high may_follow last_high last_in pieces
+    high_bytes encode_high decode_high
 tables_restarted = refl then refl then refl then refl
 
 -- seat 0 joins; a proposal that names office 16 as its sender
@@ -132,7 +133,8 @@ turned office t b output = (step_table office t b output).refusal
 
 -- both in turn: 4 and 19 before 2 and 3; 2 before 3; 3; then 6 and 9 for a room of another office; accepted
 pub turn_numbers :
-    turned 0 broken [] 0 ∷ turned 0 broken (bytes_from 0 1 1 1) full_room ∷ turned 0 (fresh_table 0) (bytes_from 0 1 1 1) 0
+    turned 0 broken [] 0 ∷ turned 0 broken (bytes_from 0 1 1 1) full_room
+    ∷ turned 0 (fresh_table 0) (bytes_from 0 1 1 1) 0
     ∷ turned 0 broken (bytes_from 0 1 1 0) 0 ∷ turned 0 mixed (bytes_from 7 1 1 0) 0
     ∷ turned 0 mixed (bytes_from 7 1 1 0) full_room ∷ turned 0 (fresh_table 5) (bytes_from 7 1 1 0) full_room
     ∷ turned 0 mixed (bytes_from 0 1 1 0) full_room ∷ []

@@ -1,5 +1,5 @@
--- The worked days at office 0, in room 0, that document 01 marks with *, N as change request 2 has it, and a day at the ceiling:
--- what comes of each by the rules, and what the documents say.
+-- The worked days at office 0, in room 0, that document 01 marks with *, N as change request 2 has it, and a day at the
+-- ceiling: what comes of each by the rules, and what the documents say.
 use Rattle.std.specs.Prelude.{List, [], ◌∷◌, ◌++◌, ℕ, ◌+◌, ◌-◌}
 use Rattle.laws.specs.Upd.{upd}
 use Rattle.laws.specs.Fin.{allb, anyb, largest}
@@ -8,8 +8,8 @@ use Rattle.laws.specs.Big.{bytes_all}
 use Rattle.laws.specs.Bit.{bit}
 use Rattle.seats.specs.Seats.{has, union_of, without_of}
 use Rattle.seats.specs.Offices.{serves}
-use Rattle.records.specs.Layout.{encode_report, decode_report, encode_proposal, decode_proposal, encode_notice, encode_view}
-use Rattle.records.specs.Layout.{room_of, mark_of, form_for, form_of, check_for, check_of}
+use Rattle.records.specs.Layout.{encode_report, decode_report, encode_proposal, decode_proposal, encode_notice}
+use Rattle.records.specs.Layout.{encode_view, room_of, mark_of, form_for, form_of, check_for, check_of}
 use Rattle.rules.specs.State.{None, Fast, State, fast, slow}
 use Rattle.rules.specs.Rules.{Written, notice, proposal, view, and_then, fresh, restarted, net_after, with_net}
 use Rattle.rules.specs.Rules.{repeats, seated, opened, notice_of, opens, next_number, own_proposal, proposed}
@@ -58,13 +58,14 @@ two a b = a ∷ b ∷ tab 14 (λ o. 0)
 
 -- a record handed in for the state's own office, with the least output; to unfold it is to unfold the rules
 unfoldable pub given : State → List ℕ → Result
-unfolding upd allb anyb largest tab bytes_all bit has union_of without_of serves encode_report decode_report encode_proposal
-    decode_proposal encode_notice encode_view room_of mark_of form_for form_of check_for check_of and_then fresh restarted net_after
-    with_net repeats seated opened notice_of opens next_number own_proposal proposed receives proposes_fast received
-    matching matching_slow above_own uses_own slow_called joined_number slow_number proposes_slow slow_test agrees_kind is_none
-    agreed start_of view_of concluded agreement_test tests change_rule report_rule proposal_rule slot_within well_formed
-    read_check event_of wrong_sender wrong_kind wrong_number without_seat stray_used uses_itself not_above used_ahead
-    read_number proposal_checks accepting act_of act_with take_of step_of all_bytes
+unfolding upd allb anyb largest tab bytes_all bit has union_of without_of serves encode_report decode_report
+    encode_proposal decode_proposal encode_notice encode_view room_of mark_of form_for form_of check_for check_of
+    and_then fresh restarted net_after with_net repeats seated opened notice_of opens next_number own_proposal proposed
+    receives proposes_fast received matching matching_slow above_own uses_own slow_called joined_number slow_number
+    proposes_slow slow_test agrees_kind is_none agreed start_of view_of concluded agreement_test tests change_rule
+    report_rule proposal_rule slot_within well_formed read_check event_of wrong_sender wrong_kind wrong_number
+    without_seat stray_used uses_itself not_above used_ahead read_number proposal_checks accepting act_of act_with
+    take_of step_of all_bytes
 given s b = step_of s.own s b full_room
 
 -- what is handed in: a report of joining and of leaving seats, one of joining seats only, and P of document 01

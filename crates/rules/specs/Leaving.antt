@@ -35,7 +35,8 @@ unfoldable pub actions_from : ℕ → ℕ → List Written → List Action
 actions_from last place [] = []
 actions_from last place (w ∷ ws) =
     let n = next_high (largest_in w) in
-    ifb (ltb last (largest_in w)) (puts_all place (high_bytes n) ++ (leaves w ∷ actions_from n (place + high_length) ws))
+    ifb (ltb last (largest_in w))
+    (puts_all place (high_bytes n) ++ (leaves w ∷ actions_from n (place + high_length) ws))
     (leaves w ∷ actions_from last place ws)
 
 -- with the file f; an unfinished last record is overwritten

@@ -12,8 +12,7 @@ use Rattle.rules.specs.MarkFile.{last_high, good_file}
 use Rattle.records.specs.declared.Report.{Report}
 use Rattle.records.specs.declared.Proposal.{Proposal}
 use Rattle.rules.specs.State.{Slot, State, fast, slow, stored_at, accepted_at, used_at, used_for}
-use Rattle.rules.specs.Rules.{Written, notice, proposal, view, Outcome, fresh, restarted, report_rule}
-use Rattle.rules.specs.Rules.{proposal_rule}
+use Rattle.rules.specs.Rules.{Written, notice, proposal, view, Outcome, fresh, restarted, report_rule, proposal_rule}
 
 -- the numbers of a stored proposal; an empty slot has none
 unfoldable pub slot_within : Slot → Bool

@@ -9,8 +9,8 @@ use borrow.Author.Tests.{ltb-false}
 use Rattle.records.specs.declared.Proposal.{Proposal}
 use Rattle.rules.specs.State.{State}
 use Rattle.rules.specs.Rules.{Outcome}
-use Rattle.rules.specs.Refusals.{full_room, well_formed, Event, a_proposal, form_refusal, read_number, refusal_of, rule_of}
-use Rattle.rules.specs.Refusals.{accepting, act_of, act_with, Result, take_of}
+use Rattle.rules.specs.Refusals.{full_room, well_formed, Event, a_proposal, form_refusal, read_number, refusal_of}
+use Rattle.rules.specs.Refusals.{rule_of, accepting, act_of, act_with, Result, take_of}
 use Rattle.rule_laws.proofs.Checking.{own_form}
 use Rattle.rule_laws.proofs.Steps.{Refused, Takes, Passes, well_facts, check_facts, reading_facts}
 use Rattle.rule_laws.proofs.Steps.{take_accepts, take_cases}

@@ -47,8 +47,10 @@ cut_off b left = seen (next told (cut 0 b left 7))
 -- no cut; nothing begun; office 1's proposal taken up and no record left, and with the view left; seat 8 joins and the
 -- notice alone has left, and with the proposal
 pub cut_off_lem :
-    seen told ∷ cut_off nothing_begun 0 ∷ cut_off (begun_delivery 1 full_room) 0 ∷ cut_off (begun_delivery 1 full_room) 1
-    ∷ cut_off (begun_report (joins 0b100000000) full_room) 1 ∷ cut_off (begun_report (joins 0b100000000) full_room) 2 ∷ []
+    seen told ∷ cut_off nothing_begun 0 ∷ cut_off (begun_delivery 1 full_room) 0
+    ∷ cut_off (begun_delivery 1 full_room) 1
+    ∷ cut_off (begun_report (joins 0b100000000) full_room) 1
+    ∷ cut_off (begun_report (joins 0b100000000) full_room) 2 ∷ []
     ≡ (1 ∷ 1 ∷ 0 ∷ 17 ∷ 1 ∷ 1 ∷ 2 ∷ 0 ∷ []) ∷ (7 ∷ 7 ∷ 7 ∷ 0 ∷ 1 ∷ 1 ∷ 2 ∷ 0 ∷ [])
     ∷ (7 ∷ 7 ∷ 7 ∷ 0 ∷ 1 ∷ 0 ∷ 2 ∷ 0 ∷ []) ∷ (7 ∷ 7 ∷ 7 ∷ 0 ∷ 1 ∷ 0 ∷ 3 ∷ 1 ∷ [])
     ∷ (7 ∷ 7 ∷ 7 ∷ 0 ∷ 1 ∷ 1 ∷ 3 ∷ 0 ∷ []) ∷ (7 ∷ 7 ∷ 7 ∷ 0 ∷ 2 ∷ 1 ∷ 4 ∷ 0 ∷ []) ∷ []
@@ -71,7 +73,8 @@ pub with_file :
     (cuts 0 begun 9 ∷ cuts 0 begun 10 ∷ cuts 0 begun 11 ∷ cuts 0 begun 12 ∷ [])
     ≡ cut 0 begun 0 0 ∷ cut 0 begun 0 1_000_001 ∷ cut 0 begun 1 2_000_002 ∷ cut 0 begun 2 3_000_003 ∷ []
 unfolding given at_first answered with_link report_answer proposal_answer begun_writes taken_up cut_answer next plainly
-    next_filed done_at actions_from puts_all file_after left_in high_bytes encode_high decode_high pieces last_in last_high
+    next_filed done_at actions_from puts_all file_after left_in high_bytes encode_high decode_high pieces last_in
+    last_high
 with_file = refl
 
 -- the same of one office, which acts to the end at last: the start numbers and proposal numbers that left, the file
@@ -86,8 +89,9 @@ pub left_kept_lem :
     ∷ (kept_after (fresh_kept 0) turns).file ∷ []
     ≡ (1 ∷ 1_000_002 ∷ 2_000_003 ∷ []) ∷ (1_000_002 ∷ 2_000_003 ∷ [])
     ∷ (high_bytes 1_000_001 ++ high_bytes 2_000_002 ++ high_bytes 3_000_003) ∷ []
-unfolding given answer_to done restart_after restart_of restart_checks next_kept left_kept picked runs actions_from puts_all
-    file_after left_in good_file all_high is_high may_follow high_bytes encode_high decode_high pieces last_in last_high
+unfolding given answer_to done restart_after restart_of restart_checks next_kept left_kept picked runs actions_from
+    puts_all file_after left_in good_file all_high is_high may_follow high_bytes encode_high decode_high pieces last_in
+    last_high
 left_kept_lem = refl then refl then refl then refl
 
 -- below a number that left, and above L, no office begins again

@@ -26,10 +26,9 @@ use Rattle.runs.specs.World.{Item, World, Underway, nothing_begun, begun_report,
 use Rattle.runs.specs.World.{without, answered, with_link, front_writes, begun_writes, taken_up, cut_answer, next}
 use Rattle.runs.specs.World.{report_answer, proposal_answer, Among}
 use Rattle.runs.specs.Begins.{InF}
-use Rattle.runs.proofs.Arrays.{Offices, relink, restart, top_after, Climbs, climbs_none, climbs_notice}
-use Rattle.runs.proofs.Arrays.{climbs_view, climbs_proposal, TellsUsed, tells_none, tells_notice, tells_view}
-use Rattle.runs.proofs.Arrays.{tells_proposal, Restarts, FromF, Numbers, takes_nothing, takes_front, Happens}
-use Rattle.runs.proofs.Arrays.{restarts_apart, restarts}
+use Rattle.runs.proofs.Arrays.{Offices, relink, restart, top_after, Climbs, climbs_none, climbs_notice, climbs_view}
+use Rattle.runs.proofs.Arrays.{climbs_proposal, TellsUsed, tells_none, tells_notice, tells_view, tells_proposal}
+use Rattle.runs.proofs.Arrays.{Restarts, FromF, Numbers, takes_nothing, takes_front, Happens, restarts_apart, restarts}
 use Rattle.runs.proofs.Links.{every_without}
 use Rattle.runs.proofs.StateArrays.{Sim}
 use Rattle.runs.proofs.RulesArrays.{Same, Moved}
@@ -202,7 +201,8 @@ module _ (F : ℕ → Bool) where
     abbrev written_left : Underway → List Written
     written_left b = take left (begun_writes w me b)
 
-    restarting : (b : Underway) → Among (cut me b left m) → Every (λ v. own_number v ≤ m) (written_left b) → g.top me ≤ m
+    restarting : (b : Underway) → Among (cut me b left m) → Every (λ v. own_number v ≤ m) (written_left b)
+        → g.top me ≤ m
         → (h : Offices) → h.num me ≡ g.num me → h.used me ≡ g.used me → h.top me ≡ g.top me
         → Restarts h me m (written_left b)
     restarting b a e l h en eu et =

@@ -21,8 +21,7 @@ use Rattle.rule_laws.proofs.Steps.{Refused, Takes, Passes, well_facts, check_fac
 use Rattle.rule_laws.proofs.Steps.{take_cases}
 use Rattle.rule_laws.proofs.Parts.{received_reads}
 use Rattle.rule_laws.proofs.Walk.{staged_proposal}
-use Rattle.runs.specs.World.{Item, World, delivery, without, answered, with_link, proposal_answer, to_proposal}
-use Rattle.runs.specs.World.{Among}
+use Rattle.runs.specs.World.{Item, World, delivery, without, answered, with_link, proposal_answer, to_proposal, Among}
 use Rattle.runs.specs.Begins.{InF}
 use Rattle.runs.proofs.Arrays.{Offices, Barred, receive, relink, Arrives, FromF, Numbers, Happens, idles}
 use Rattle.runs.proofs.Arrays.{drops, stores, answers}

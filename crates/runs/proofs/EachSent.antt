@@ -11,10 +11,9 @@ use Rattle.rules.specs.Rules.{Written, restarted}
 use Rattle.rules.specs.Refusals.{a_report, a_proposal, Result}
 use Rattle.runs.specs.Office.{Input, answer_to, next_state, Turn, entire, broken, handed_at, left_at, next_turn}
 use Rattle.runs.specs.Office.{left_over}
-use Rattle.runs.specs.World.{Item, World, SentRecord, Underway, nothing_begun, begun_report, begun_delivery}
-use Rattle.runs.specs.World.{WorldEvent, report, delivery, loss, cut, logged, answered, with_link, idle}
-use Rattle.runs.specs.World.{report_answer, proposal_answer, delivered, begun_writes, front_writes, taken_up}
-use Rattle.runs.specs.World.{cut_answer, next, run}
+use Rattle.runs.specs.World.{Item, World, SentRecord, Underway, nothing_begun, begun_report, begun_delivery, WorldEvent}
+use Rattle.runs.specs.World.{report, delivery, loss, cut, logged, answered, with_link, idle, report_answer}
+use Rattle.runs.specs.World.{proposal_answer, delivered, begun_writes, front_writes, taken_up, cut_answer, next, run}
 
 -- each record of a log satisfies Q
 abbrev pub EachLogged : (Written → Type 0) → List SentRecord → Type 0

@@ -22,8 +22,7 @@ use Rattle.rule_laws.proofs.Leaving.{all_covers}
 use Rattle.runs.specs.Office.{Input, answer_to, handed_at, next_turn, left_at, left_over, TurnAbove, TurnsAbove}
 use Rattle.runs.specs.Office.{no_turn, a_turn, NumbersOnce}
 use Rattle.runs.specs.Files.{KeptOffice, FileTurn, acts, cut_after, done, restart_after, next_kept, fresh_kept}
-use Rattle.runs.specs.Files.{kept_after}
-use Rattle.runs.specs.Files.{left_kept, begins_with, turn_of, turns_of}
+use Rattle.runs.specs.Files.{kept_after, left_kept, begins_with, turn_of, turns_of}
 use Rattle.runs.proofs.OfficeViews.{answer_ends}
 use Rattle.runs.proofs.OfficeGiven.{numbers_once}
 
@@ -97,7 +96,8 @@ module _ (own : ℕ) (lt : own < 16) where
     kept_next t = (l ++ left_at k.state (turn_of k t), (after t).keeps)
 
   pub fresh_kept_lem : WellKept (fresh_kept own) []
-  fresh_kept_lem = record { is_own = (fresh_reads own).own_is; covers = record { order = no_marks_lem; covered = none } }
+  fresh_kept_lem =
+      record { is_own = (fresh_reads own).own_is; covers = record { order = no_marks_lem; covered = none } }
 
   -- the run is one of turns that begin again at or above all that left
   runs_above : (k : KeptOffice) (l : List Written) (ts : List FileTurn) → WellKept k l

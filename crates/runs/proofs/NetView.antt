@@ -23,10 +23,9 @@ use Rattle.rules.specs.Refusals.{Event, a_report, a_proposal, rule_of, Result, t
 use Rattle.rule_laws.proofs.Steps.{Refused, Takes, take_accepts, take_cases}
 use Rattle.rule_laws.proofs.Repeats.{net_repeat, repeat_rule}
 use Rattle.rule_laws.proofs.Parts.{fresh_reads, restarted_reads}
-use Rattle.runs.specs.World.{Item, World, at_first, Underway, nothing_begun, begun_report, begun_delivery}
-use Rattle.runs.specs.World.{WorldEvent, report, delivery, loss, cut, taken_up, cut_answer, answered, with_link}
-use Rattle.runs.specs.World.{idle, delivered, report_answer, proposal_answer, next, run, at, Nth, net_one, net_by}
-use Rattle.runs.specs.World.{Among}
+use Rattle.runs.specs.World.{Item, World, at_first, Underway, nothing_begun, begun_report, begun_delivery, WorldEvent}
+use Rattle.runs.specs.World.{report, delivery, loss, cut, taken_up, cut_answer, answered, with_link, idle, delivered}
+use Rattle.runs.specs.World.{report_answer, proposal_answer, next, run, at, Nth, net_one, net_by, Among}
 use Rattle.runs.specs.Begins.{AllAmong}
 use Rattle.runs.proofs.Proposals.{report_net, proposal_net}
 

@@ -18,13 +18,12 @@ use Rattle.rules.specs.Rules.{Written, has_recipient, receives}
 use Rattle.runs.specs.World.{Item, World, WorldEvent, mail, without}
 use Rattle.runs.specs.Begins.{InF, Rising}
 use Rattle.laws.proofs.Grid.{upd2_cases, upd2_same, upd2_other}
-use Rattle.runs.proofs.Arrays.{Offices, mail_to, renet, propose, receive, conclude, relink, other, Proposes}
-use Rattle.runs.proofs.Arrays.{Agreed, Arrives, FromF, Numbers, restart, top_after, Restarts}
-use Rattle.runs.proofs.Arrays.{Climbs, climbs_none, climbs_notice, climbs_view, climbs_proposal, TellsUsed}
-use Rattle.runs.proofs.Arrays.{tells_none, tells_notice, tells_view, tells_proposal, takes_nothing, takes_front}
-use Rattle.runs.proofs.Arrays.{SlowTest, not_called, called, AgreementTest, not_agreed, agreed, Tests, both}
-use Rattle.runs.proofs.Arrays.{Happens, idles, refuses, repeated, loses, drops, leaves, reports, stores}
-use Rattle.runs.proofs.Arrays.{answers, restarts_apart, restarts}
+use Rattle.runs.proofs.Arrays.{Offices, mail_to, renet, propose, receive, conclude, relink, other, Proposes, Agreed}
+use Rattle.runs.proofs.Arrays.{Arrives, FromF, Numbers, restart, top_after, Restarts, Climbs, climbs_none}
+use Rattle.runs.proofs.Arrays.{climbs_notice, climbs_view, climbs_proposal, TellsUsed, tells_none, tells_notice}
+use Rattle.runs.proofs.Arrays.{tells_view, tells_proposal, takes_nothing, takes_front, SlowTest, not_called, called}
+use Rattle.runs.proofs.Arrays.{AgreementTest, not_agreed, agreed, Tests, both, Happens, idles, refuses, repeated, loses}
+use Rattle.runs.proofs.Arrays.{drops, leaves, reports, stores, answers, restarts_apart, restarts}
 use Rattle.runs.proofs.Links.{every_without, rising_le, rising_low, rising_high, rising_snoc, rising_tail}
 use Rattle.runs.proofs.Links.{rising_head, rising_without}
 

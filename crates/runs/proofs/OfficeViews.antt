@@ -33,8 +33,7 @@ use Rattle.runs.specs.Office.{Input, answer_to, next_state, LogEntry, answer_of,
 use Rattle.runs.specs.Office.{CountedAt}
 use Rattle.runs.proofs.OfficeRuns.{log_keeps, before_first, before_second}
 use Rattle.runs.proofs.OfficeNumbers.{last_of, SlotAfter, same, empty, newer, Renews, renews_none, renews_then}
-use Rattle.runs.proofs.OfficeNumbers.{renews_net, renews_opened, renews_proposed, renews_received}
-use Rattle.runs.proofs.OfficeNumbers.{renews_concluded}
+use Rattle.runs.proofs.OfficeNumbers.{renews_net, renews_opened, renews_proposed, renews_received, renews_concluded}
 
 -- the parts of an event before the agreement test write no view
 opens_no_view : (s : State) → Every NoView (opens s).written

@@ -20,8 +20,8 @@ use Rattle.rules.specs.Rules.{slow_called, slow_number, next_number, begins_in, 
 use Rattle.rules.specs.Leaving.{own_number}
 use Rattle.rule_laws.proofs.Parts.{made_is, made_used}
 use Rattle.rule_laws.proofs.Tests.{Matching, Above, Cause, in_mode_none, heard_slow, is_used, heard_above, NotCalled}
-use Rattle.rule_laws.proofs.Tests.{NumberFrom, joins, starts, Agreeing, AllAgree, called_out, not_called, slow_number_lem}
-use Rattle.rule_laws.proofs.Tests.{slow_above, next_above, agreed_out, agreed_in}
+use Rattle.rule_laws.proofs.Tests.{NumberFrom, joins, starts, Agreeing, AllAgree, called_out, not_called}
+use Rattle.rule_laws.proofs.Tests.{slow_number_lem, slow_above, next_above, agreed_out, agreed_in}
 use Rattle.rule_laws.proofs.Walk.{slow_round, concludes, Tested}
 use Rattle.runs.specs.World.{Item, SentRecord, SentView, mail, logged, views_in}
 use Rattle.runs.proofs.Arrays as off
@@ -34,7 +34,8 @@ ifb_same : (b : Bool) (x y : ℕ) → (b ≡ true → x ≡ y) → ifb b x 0 ≡
 ifb_same true x y e = e refl
 ifb_same false x y e = refl
 
-pub view_ext : (x : ℕ) (f h : ℕ → ℕ) → ((o : ℕ) → o < 16 → serves x o ≡ true → f o ≡ h o) → view_with x f ≡ view_with x h
+pub view_ext : (x : ℕ) (f h : ℕ → ℕ) → ((o : ℕ) → o < 16 → serves x o ≡ true → f o ≡ h o)
+    → view_with x f ≡ view_with x h
 unfolding view_with
 view_ext x f h e =
     let a = largest_ext 16 (λ o. ifb (serves x o) (f o) 0) (λ o. ifb (serves x o) (h o) 0)
@@ -56,7 +57,8 @@ mail_append t j (proposal p ∷ a) b =
     rw e (sym (mail_proposal (receives p j) (record { proposal = p; sent = t }) (mail t j a) (mail t j b)))
 mail_append t j (view v ∷ a) b = mail_append t j a b
 
-pub views_logged : (t : ℕ) (ws : List Written) (l : List SentRecord) → views_in (logged t ws l) ≡ shows t ws (views_in l)
+pub views_logged : (t : ℕ) (ws : List Written) (l : List SentRecord)
+    → views_in (logged t ws l) ≡ shows t ws (views_in l)
 views_logged t [] l = refl
 views_logged t (notice n ∷ ws) l = views_logged t ws (record { what = notice n; clock = t } ∷ l)
 views_logged t (proposal p ∷ ws) l = views_logged t ws (record { what = proposal p; clock = t } ∷ l)
@@ -345,7 +347,8 @@ module _ (t me : ℕ) (s : State) (g : Offices) (h : Sim s g me) where
 
 module _ (t me : ℕ) where
   proposes_slow_lem : (s : State) (g : Offices) → Sim s g me
-      → (k : Offices) × (k ≡ propose g me Slow (own_proposal Slow (slow_number s) s) t) × Moved t me g (proposes_slow s) k
+      → (k : Offices) × (k ≡ propose g me Slow (own_proposal Slow (slow_number s) s) t)
+      × Moved t me g (proposes_slow s) k
   unfolding proposes_slow
   proposes_slow_lem s g h = (
     propose g me Slow (own_proposal Slow (slow_number s) s) t,

@@ -21,10 +21,9 @@ use Rattle.rules.specs.Rules.{Written}
 use Rattle.rules.specs.Leaving.{own_number}
 use Rattle.rules.specs.Refusals.{a_report, a_proposal, Result}
 use Rattle.runs.specs.Office.{Input, answer_to, Turn, broken, handed_at, left_at, next_turn, TurnAbove}
-use Rattle.runs.specs.World.{Item, World, SentRecord, mail, logged, answered, with_link, idle, without}
-use Rattle.runs.specs.World.{Underway, nothing_begun, begun_report, begun_delivery, WorldEvent, report, delivery}
-use Rattle.runs.specs.World.{loss, cut, report_answer, proposal_answer, begun_writes, taken_up, cut_answer, next}
-use Rattle.runs.specs.World.{Among}
+use Rattle.runs.specs.World.{Item, World, SentRecord, mail, logged, answered, with_link, idle, without, Underway}
+use Rattle.runs.specs.World.{nothing_begun, begun_report, begun_delivery, WorldEvent, report, delivery, loss, cut}
+use Rattle.runs.specs.World.{report_answer, proposal_answer, begun_writes, taken_up, cut_answer, next, Among}
 use Rattle.runs.specs.Begins.{InF, CutAbove}
 use Rattle.runs.specs.Turns.{hands_to, TurnAt, on_report, on_delivery, on_cut_report, on_cut_delivery}
 use Rattle.runs.proofs.Links.{every_without}

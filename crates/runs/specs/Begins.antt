@@ -8,8 +8,7 @@ use Rattle.records.specs.Numbers.{limit}
 use Rattle.rules.specs.State.{State}
 use Rattle.rules.specs.Leaving.{own_number}
 use Rattle.rules.specs.Rules.{proposal, fresh}
-use Rattle.runs.specs.World.{Item, World, WorldEvent, report, delivery, loss, cut, next as nextWorld, at, Nth}
-use Rattle.runs.specs.World.{Among}
+use Rattle.runs.specs.World.{Item, World, WorldEvent, report, delivery, loss, cut, next as nextWorld, at, Nth, Among}
 
 -- office i is one of F
 abbrev pub InF : (ℕ → Bool) → ℕ → Type 0

@@ -14,8 +14,7 @@ use Rattle.settling.specs.Statement.{OutAndBack, CutsFirst, Assumed, AllReported
 use Rattle.settling.specs.Scenarios.{Posted, Scenario, state_in, link_in, change_at}
 use Rattle.settling.proofs.Settling.{settles_with_files}
 use Rattle.settling.proofs.Scenarios.{meets_all, meets_cuts, reported}
-use Rattle.settling.specs.Scenarios.{Summary, summary, no_view, sent_at, short_room}
-use Rattle.settling.specs.Scenarios.{with_files, in_none}
+use Rattle.settling.specs.Scenarios.{Summary, summary, no_view, sent_at, short_room, with_files, in_none}
 
 -- 1. Both offices are told of {0, 4}: each proposes with start 1 and number 1. Each takes the other's proposal and
 -- sends view 2.

@@ -14,11 +14,9 @@ use Rattle.runs.proofs.Arrays.{SlowTest, not_called, called, AgreementTest, not_
 use Rattle.runs.proofs.Numbers.{numbers_renet, numbers_relink, numbers_receive, numbers_propose, numbers_conclude}
 use Rattle.runs.proofs.Numbers.{numbers_restart}
 use Rattle.settling.specs.Statement.{OfA}
-use Rattle.settling.proofs.Invariants.{Done, NoLast, Core, Proposing, Reported, Concluding, Losing}
-use Rattle.settling.proofs.Invariants.{HappensFairly, fair_idle, fair_loss, fair_cut, fair_leave, fair_report}
-use Rattle.settling.proofs.Invariants.{fair_store, fair_answer}
-use Rattle.settling.proofs.LastProposal.{book_later, renet_book, relink_book, receive_book, propose_book}
-use Rattle.settling.proofs.LastProposal.{conclude_book}
+use Rattle.settling.proofs.Invariants.{Done, NoLast, Core, Proposing, Reported, Concluding, Losing, HappensFairly}
+use Rattle.settling.proofs.Invariants.{fair_idle, fair_loss, fair_cut, fair_leave, fair_report, fair_store, fair_answer}
+use Rattle.settling.proofs.LastProposal.{book_later, renet_book, relink_book, receive_book, propose_book, conclude_book}
 use Rattle.settling.proofs.Rounds.{rounds_later, renet_rounds, relink_rounds, receive_rounds, propose_rounds}
 use Rattle.settling.proofs.Rounds.{conclude_rounds}
 

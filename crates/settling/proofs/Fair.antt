@@ -20,7 +20,8 @@ use Rattle.rules.specs.Refusals.{Result}
 use Rattle.runs.specs.World.{Item, World, Underway, WorldEvent, report, delivery, loss, cut, next, Gives, to_report}
 use Rattle.runs.specs.World.{Among}
 use Rattle.runs.proofs.Arrays.{Offices, Barred, renet, propose, conclude, Arrives, Apart, SlowTest, not_called, called}
-use Rattle.runs.proofs.Arrays.{AgreementTest, not_agreed, agreed, Tests, both, Happens, idles, refuses, repeated, loses, drops}
+use Rattle.runs.proofs.Arrays.{AgreementTest, not_agreed, agreed, Tests, both, Happens, idles, refuses, repeated, loses}
+use Rattle.runs.proofs.Arrays.{drops}
 use Rattle.runs.proofs.Arrays.{leaves, reports, stores, answers, restarts_apart, restarts, takes_nothing, takes_front}
 use Rattle.runs.proofs.WorldArrays.{SeenAll, below_sixteen}
 use Rattle.settling.specs.Statement.{between, delivery_one, OfA}

@@ -17,10 +17,9 @@ use Rattle.runs.specs.Plays.{change, join, leave, hand, join_begun, changes, han
 use Rattle.settling.specs.Statement.{net_at, OutAndBack, CutsFirst, Assumed, AllReported, Settled, SettlesIf}
 use Rattle.settling.proofs.Changes.{cuts_first_lem}
 use Rattle.settling.proofs.Scenarios.{meets, reported}
-use Rattle.settling.specs.Scenarios.{Scenario, starts_fresh, without_mail, others_pass, net_is_a, with_room}
-use Rattle.settling.specs.Scenarios.{no_ceiling, none_lost, out_and_back, cuts_before_all, state_in, link_in, change_at}
-use Rattle.settling.specs.Scenarios.{fails, fails_by_report, summary, no_view, sent_at}
-use Rattle.settling.specs.Scenarios.{with_files, short_room, in_none}
+use Rattle.settling.specs.Scenarios.{Scenario, starts_fresh, without_mail, others_pass, net_is_a, with_room, no_ceiling}
+use Rattle.settling.specs.Scenarios.{none_lost, out_and_back, cuts_before_all, state_in, link_in, change_at, fails}
+use Rattle.settling.specs.Scenarios.{fails_by_report, summary, no_view, sent_at, with_files, short_room, in_none}
 
 -- none-lost: office 0's only proposal is lost after its last report. Office 0 sends view 2, office 1 none.
 abbrev lost_after : Scenario
@@ -271,8 +270,8 @@ forged_summary :
 unfolding summary
 forged_summary = refl
 
--- out_and_back, and cuts_before_all: office 0 stores office 1's proposal and is cut off (event 2), when the mark and the
--- start notice of a report have left. Office 1, whose only report came before the cut, counts the next proposal of
+-- out_and_back, and cuts_before_all: office 0 stores office 1's proposal and is cut off (event 2), when the mark and
+-- the start notice of a report have left. Office 1, whose only report came before the cut, counts the next proposal of
 -- office 0 into view 1,000,003; office 0 has lost the one of office 1 and waits for ever.
 abbrev unheard_cut : Scenario
 unheard_cut =

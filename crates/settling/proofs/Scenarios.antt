@@ -263,7 +263,8 @@ last_found p i lt h = go (ended i (opening p) es 0 not_yet)
     -- there is such a point, and a report just before it
     found : (ltb 0 (get_or (points p) i 0) ≡ true)
         × (reports_to i (get_or es (get_or (points p) i 0 - 1) (loss 0 0 0)) ≡ true)
-    found = (and_iff (ltb 0 (get_or (points p) i 0)) (reports_to i (get_or es (get_or (points p) i 0 - 1) (loss 0 0 0)))).0 h
+    found = (and_iff (ltb 0 (get_or (points p) i 0))
+        (reports_to i (get_or es (get_or (points p) i 0 - 1) (loss 0 0 0)))).0 h
 
     -- so no cut
     no_cut : (k : ℕ) → k ≡ get_or (points p) i 0 - 1 → (b : Underway) (left m : ℕ) → Nth es k (cut i b left m) → ⊥

@@ -27,8 +27,7 @@ use Rattle.runs.proofs.Start.{at_start, start_numbers}
 use Rattle.runs.proofs.Places.{nth_same, at_next, drop_next, clock_first, along}
 use Rattle.runs.proofs.Runs.{Shown, shown_along, shown_at}
 use Rattle.settling.specs.Statement.{on_way, delivery_one, deliveries, OfA, net_at, Changes, Assumed, AllReported}
-use Rattle.settling.specs.Statement.{Settled, CutsFirst, SettlesUncut, Settles, SettlesAfterCuts}
-use Rattle.settling.specs.Statement.{SettlesWithFiles}
+use Rattle.settling.specs.Statement.{Settled, CutsFirst, SettlesUncut, Settles, SettlesAfterCuts, SettlesWithFiles}
 use Rattle.settling.proofs.Invariants.{Done, Inv, HappensFairly}
 use Rattle.settling.proofs.AfterTests.{inv_none, inv_acts}
 use Rattle.settling.proofs.Core.{core_none}

@@ -1,7 +1,8 @@
 -- Scenarios, for examples of the settling rule: a set, sixteen offices, a list of events. What the rule assumes of a
 -- scenario is a list of tests that compute (proofs/Scenarios.antt turns them into the rule's own hypotheses); what it
 -- shows is one record of numbers, to be compared with numbers written by hand.
-use Rattle.std.specs.Prelude.{Bool, true, false, ◌&&◌, ◌||◌, not, List, [], ◌∷◌, ◌++◌, map, ℕ, zero, suc, ◌+◌, ◌-◌, ◌*◌, ◌^◌, get_or, drop, eqb, ltb}
+use Rattle.std.specs.Prelude.{Bool, true, false, ◌&&◌, ◌||◌, not, List, [], ◌∷◌, ◌++◌, map, ℕ, zero, suc, ◌+◌, ◌-◌, ◌*◌}
+use Rattle.std.specs.Prelude.{◌^◌, get_or, drop, eqb, ltb}
 use Rattle.laws.specs.Fin.{allb, largest, sum}
 use Rattle.laws.specs.Tab.{tab}
 use Rattle.laws.specs.Lists.{runs, pieces}
@@ -296,9 +297,9 @@ pub record Summary : Type 0 where
 
 -- who unfolds this unfolds the rules
 unfoldable pub summary : Scenario → Summary
-unfolding given at_first answered with_link idle begun_writes taken_up cut_answer report_answer proposal_answer next runs
-    net_by count_of deliveries sum followed points change_at report_at everywhere back_in out_and_back_in after_cuts holds fails
-    fails_by_report reported_last answers_to point_of
+unfolding given at_first answered with_link idle begun_writes taken_up cut_answer report_answer proposal_answer next
+    runs net_by count_of deliveries sum followed points change_at report_at everywhere back_in out_and_back_in
+    after_cuts holds fails fails_by_report reported_last answers_to point_of
 summary p =
     let t = point_of p in
     let w = at (opening p) p.events t in
@@ -324,8 +325,8 @@ short_room = full_room - 1
 -- the events that a list with files is, the files empty at first; who unfolds this unfolds what an office does to its
 -- file
 unfoldable pub with_files : List FileEvent → List WorldEvent
-unfolding summary plainly next_filed done_at actions_from puts_all file_after left_in high_bytes encode_high decode_high pieces
-    last_in last_high
+unfolding summary plainly next_filed done_at actions_from puts_all file_after left_in high_bytes encode_high decode_high
+    pieces last_in last_high
 with_files fs = plainly (filed_first (state_in []) (link_in []) (λ i. [])) fs
 
 -- an office in mode none with nothing stored and no view yet

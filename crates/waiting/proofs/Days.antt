@@ -7,6 +7,6 @@ use Rattle.waiting.specs.Waiting.{lacks, lowest_lacking, for_nobody, waiting_for
 use Rattle.waiting.specs.Days.{answers_computed, answers_stated}
 
 pub days_answered : answers_computed ≡ answers_stated
-unfolding answers_computed answers_stated day_a day_b day_c day_g day_i given waiting_for lacks lowest_lacking for_nobody
-    lowest_below
+unfolding answers_computed answers_stated day_a day_b day_c day_g day_i given waiting_for lacks lowest_lacking
+    for_nobody lowest_below
 days_answered = refl then refl then refl then refl then refl then refl then refl then refl then refl then refl

@@ -82,7 +82,8 @@ pub data Means (s : State) : Waiting → Type 0 where
   malformed : well_formed s ≡ false → Means s answers.Malformed
   nobody : well_formed s ≡ true → for_nobody s ≡ true → Means s answers.Nobody
   met : well_formed s ≡ true → for_nobody s ≡ false → agreed s ≡ true → Means s answers.Met
-  named : (o : ℕ) → well_formed s ≡ true → for_nobody s ≡ false → agreed s ≡ false → Lowest s o → Means s (answers.For o)
+  named : (o : ℕ) → well_formed s ≡ true → for_nobody s ≡ false → agreed s ≡ false → Lowest s o
+      → Means s (answers.For o)
 
 module _ (s : State) where
   lacks_out : (o : ℕ) → lacks s o ≡ true → (serves s.net.bits o ≡ true) × (agrees_in s.mode s o ≡ false)

@@ -9,9 +9,8 @@ use Rattle.seats.specs.Offices.{serves}
 use Rattle.records.specs.declared.Report.{Report}
 use Rattle.records.specs.declared.Proposal.{Proposal}
 use Rattle.rules.specs.State.{Mode, None, Fast, Slow, Slot, State, kind_of, keeping, stored_at}
-use Rattle.rules.specs.Rules.{and_then, net_after, with_net, seated, opened, opens, own_proposal, proposed, proposes_fast}
-use Rattle.rules.specs.Rules.{received}
-use Rattle.rules.specs.Rules.{begins_in, proposes_slow, agreed, report_rule, proposal_rule}
+use Rattle.rules.specs.Rules.{and_then, net_after, with_net, seated, opened, opens, own_proposal, proposed}
+use Rattle.rules.specs.Rules.{proposes_fast, received, begins_in, proposes_slow, agreed, report_rule, proposal_rule}
 use Rattle.rules.specs.Refusals.{Event, a_report, a_proposal, refusal_of, rule_of}
 use Rattle.rule_laws.proofs.Parts.{proposed_reads, received_reads, concluded_reads, made_is}
 use Rattle.rule_laws.proofs.Tests.{Agreeing, AllAgree, agreed_out, agreed_in}
