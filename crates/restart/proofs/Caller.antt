@@ -18,8 +18,8 @@ use Rattle.rules.specs.Rules.{Written, own_proposal, view_of}
 use Rattle.rules.specs.MarkFile.{whole_end, last_high, good_file, next_high, high_bytes}
 use Rattle.rules.specs.Refusals.{Event, Result, take_of, step_of, bytes_of, all_bytes}
 use Rattle.rules.specs.Tables.{Table, step_table}
-use Rattle.rules.specs.Leaving.{largest_in, Action, puts, leaves, puts_all, actions_from, actions_of, with_byte, file_after}
-use Rattle.rules.specs.Leaving.{left_in}
+use Rattle.rules.specs.Leaving.{largest_in, Action, puts, leaves, puts_all, actions_from, actions_of, with_byte}
+use Rattle.rules.specs.Leaving.{file_after, left_in}
 use Rattle.rule_laws.proofs.Steps.{step_accepts, step_by, take_by}
 use Rattle.rule_laws.proofs.TableSteps.{table_by_lem}
 use Rattle.rule_laws.proofs.Written.{EachMade, every_written}

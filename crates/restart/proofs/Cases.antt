@@ -37,14 +37,15 @@ near_limit_lem : before_of 1 (told 1_999_000_001) 10 ≡ record { refusal = 0; l
 unfolding before_of before_checks front_checks leaving_length leaving_record mark_of encode_notice decode_notice told
 near_limit_lem = refl
 
-at_limit_lem : before_of 2_000_000_000 (told 2_000_000_000) 10 ≡ record { refusal = 0; length = 15; mark = 2_000_000_000 }
+at_limit_lem : before_of 2_000_000_000 (told 2_000_000_000) 10
+    ≡ record { refusal = 0; length = 15; mark = 2_000_000_000 }
 unfolding before_of before_checks front_checks leaving_length leaving_record mark_of encode_notice decode_notice told
 at_limit_lem = refl
 
 -- other offices' start numbers count
 others : before_of 8 seen 10 ≡ record { refusal = 0; length = 79; mark = 1_000_009 }
-unfolding before_of before_checks front_checks leaving_length leaving_record mark_of encode_view decode_view seen bytes_all tab
-    largest
+unfolding before_of before_checks front_checks leaving_length leaving_record mark_of encode_view decode_view seen
+    bytes_all tab largest
 others = refl
 
 -- 3, 4, 5 and 8, the first that applies
@@ -75,11 +76,11 @@ number_above = refl
 -- ten bytes of the output are touched, or none
 marked : out_before 0 (told 1) (tab 12 (λ k. k))
     ≡ 0x48 ∷ 0x4d ∷ 0 ∷ 0x0f ∷ 0x42 ∷ 0x41 ∷ 0 ∷ 0x0f ∷ 0x42 ∷ 0x41 ∷ 10 ∷ 11 ∷ []
-unfolding before_of before_checks front_checks leaving_length leaving_record mark_of encode_notice decode_notice told out_before
-    high_bytes encode_high tab
+unfolding before_of before_checks front_checks leaving_length leaving_record mark_of encode_notice decode_notice told
+    out_before high_bytes encode_high tab
 marked = refl
 
 untouched : out_before 1 (told 1) (tab 12 (λ k. k)) ≡ tab 12 (λ k. k)
-unfolding before_of before_checks front_checks leaving_length leaving_record mark_of encode_notice decode_notice told out_before
-    tab
+unfolding before_of before_checks front_checks leaving_length leaving_record mark_of encode_notice decode_notice told
+    out_before tab
 untouched = refl

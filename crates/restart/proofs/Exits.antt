@@ -117,7 +117,8 @@ module _ (last : ℕ) (rest : List ℕ) (output : ℕ) where
   unfolding before_checks front_checks
   first_8 f = rw (f.long_enough, f.marked, f.enough)
 
-  pub before_leaves : FrontFits output (front_length rest) (length rest) → leaves_above last (front_largest rest) ≡ false
+  pub before_leaves : FrontFits output (front_length rest) (length rest)
+      → leaves_above last (front_largest rest) ≡ false
       → before_of last rest output
       ≡ record { refusal = 0; length = front_length rest; mark = mark_for last (front_largest rest) }
   unfolding before_of

@@ -105,7 +105,8 @@ module _ (office : ℕ) (f : List ℕ) where
 
   module _ (ws : List ℕ) where
     -- in words of a table's length the refusal is that of making a table again, and the words are that table's
-    pub restart_refusal : length ws ≡ table_length → (restart_words office f ws).refusal ≡ (restart_table office f).refusal
+    pub restart_refusal : length ws ≡ table_length
+        → (restart_words office f ws).refusal ≡ (restart_table office f).refusal
     unfolding restart_words
     restart_refusal long = rw (eq-eqb (length ws) table_length long)
 
@@ -142,8 +143,8 @@ module _ (office : ℕ) (f : List ℕ) where
 
 -- an empty file starts fresh
 pub restart_empty : (office : ℕ) (ws : List ℕ) → restart_words office [] ws ≡ fresh_words office ws
-unfolding restart_words restart_table fresh_words made_table restart_of restart_checks made_of good_file last_high all_high
-    last_in pieces table_words
+unfolding restart_words restart_table fresh_words made_table restart_of restart_checks made_of good_file last_high
+    all_high last_in pieces table_words
 restart_empty office ws = go (dec_lt 15 office)
   where
     go : Dec (15 < office) → restart_words office [] ws ≡ fresh_words office ws
