@@ -3,7 +3,8 @@
 use Rattle.std.specs.Prelude.{◌≡◌, Bool, true, false, List, [], ◌∷◌, ◌++◌, ◌⊎◌, ◌↔◌, ℕ, ◌≤◌, ◌<◌, length, get_or}
 use Rattle.laws.specs.Checks.{first_of}
 use Rattle.laws.specs.Lists.{Every}
-use Rattle.records.specs.Layout.{report_mark, report_length, proposal_mark, proposal_length, room_of, check_of, check_own}
+use Rattle.records.specs.Layout.{report_mark, report_length, proposal_mark, proposal_length, room_of, check_of}
+use Rattle.records.specs.Layout.{check_own}
 use Rattle.records.specs.Numbers.{limit, room_count}
 use Rattle.records.specs.Run.{reading_of, WholeReading}
 use Rattle.records.specs.declared.Proposal.{Proposal}

@@ -17,7 +17,8 @@ use Rattle.records.specs.declared.Sync.{Sync}
 use Rattle.records.specs.declared.High.{High}
 use Rattle.records.specs.Fits.{FitsReport, FitsProposal, FitsNotice, FitsView, FitsSync, FitsHigh}
 use Rattle.records.specs.Layout.{encode_report, encode_proposal, encode_notice, encode_view, encode_sync, encode_high}
-use Rattle.records.specs.Layout.{room_of, check_own, decode_report, decode_proposal, decode_notice, decode_view, decode_sync}
+use Rattle.records.specs.Layout.{room_of, check_own, decode_report, decode_proposal, decode_notice, decode_view}
+use Rattle.records.specs.Layout.{decode_sync}
 use Rattle.records.specs.Layout.{decode_high, report_mark, proposal_mark, notice_mark, view_mark, sync_mark, high_mark}
 use Rattle.records.specs.Layout.{report_length, proposal_length, notice_length, view_length, sync_length, high_length}
 use Rattle.rules.specs.State.{Fast, State, zeros, keeping, stored_at, accepted_at, used_at}

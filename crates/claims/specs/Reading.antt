@@ -18,7 +18,8 @@ pub record ReadingCall : Type 0 where
   -- It gives 1 when the office is above 15, then 4, 5, 20, 6 to 10 and 19, in that order;
   pub reads_in_order : (office : ℕ) (b : List ℕ) → (read_of office b).refusal ≡ first_of (read_order office b)
   -- otherwise the event of the record, the room that it names and what it says,
-  pub event_read : (office : ℕ) (b : List ℕ) → (read_of office b).refusal ≡ 0 → (read_of office b).event ≡ record_event b
+  pub event_read : (office : ℕ) (b : List ℕ) → (read_of office b).refusal ≡ 0
+      → (read_of office b).event ≡ record_event b
   -- and with a refusal an empty report of room 0.
   pub read_none : (office : ℕ) (b : List ℕ) → ((read_of office b).refusal ≡ 0 → ⊥) → (read_of office b).event ≡ no_event
   -- The event that the code gives holds just this.

@@ -107,14 +107,16 @@ pub record Request3 : Type 0 where
 pub record Request4 : Type 0 where
   -- The answer is the lowest member seat whose record is missing, or the set of members whose record names the number.
   pub along_tells : (sheet shown : List ℕ) (previous : ℕ) → check_own view_mark view_length shown ≡ 0
-      → room_of shown < room_count → first_of (ask_checks (decode_view shown) previous (length sheet)) ≡ 0 → first_bad (records_on sheet) ≡ 0
+      → room_of shown < room_count → first_of (ask_checks (decode_view shown) previous (length sheet)) ≡ 0
+      → first_bad (records_on sheet) ≡ 0
       → Tells (decode_view shown) (map decode_sync (records_on sheet)) previous (came_along sheet shown previous)
   -- If two records of a seat count, the first on the sheet does: behind it any other of that seat may stand.
   pub first_decides : (shown : List ℕ) (previous m : ℕ) (a : List ℕ) → length a ≡ m * sync_length
       → (r p q b c : List ℕ) (n : ℕ) → length b ≡ n * sync_length → GoodRecord r → GoodRecord p → GoodRecord q
       → counts (decode_view shown) (decode_sync r).seat (decode_sync r) ≡ true
       → (decode_sync p).seat ≡ (decode_sync r).seat → (decode_sync q).seat ≡ (decode_sync r).seat
-      → came_along (a ++ (r ++ (b ++ (p ++ c)))) shown previous ≡ came_along (a ++ (r ++ (b ++ (q ++ c)))) shown previous
+      → came_along (a ++ (r ++ (b ++ (p ++ c)))) shown previous
+      ≡ came_along (a ++ (r ++ (b ++ (q ++ c)))) shown previous
   -- Neighbours of different seats may be exchanged.
   pub exchange : (shown : List ℕ) (previous m : ℕ) (a : List ℕ) → length a ≡ m * sync_length
       → (r q b : List ℕ) → GoodRecord r → GoodRecord q → ((decode_sync r).seat ≡ (decode_sync q).seat → ⊥)

@@ -116,7 +116,8 @@ pub record SettlingPerRoom : Type 0 where
       → (es : List RoomsEvent) (A : ℕ) → SettlesUncutIn tables links es k A
   -- and with cuts and one file of a server for all its rooms.
   pub settling_in_room_with_files : (tables : ℕ → Table) (links : ℕ → ℕ → List (Roomed Item)) (k : ℕ)
-      → k < room_count → (files : ℕ → List ℕ) (fs : List RoomFileEvent) (A : ℕ) → SettlesInRoom tables links files fs k A
+      → k < room_count → (files : ℕ → List ℕ) (fs : List RoomFileEvent) (A : ℕ)
+      → SettlesInRoom tables links files fs k A
 
 -- A desk keeps a seat machine for each room.
 pub record Desks : Type 0 where

@@ -53,7 +53,8 @@ code_heard seat lt room l ws s f hs e =
 pub code_heard_in_rooms : (seat : ℕ) → seat < seat_count → (ws : List ℕ) → SoundTable ws
     → ((room : ℕ) → room < room_count → table_of ws room ≡ fresh (office_of seat)) → (hs : List Handed)
     → Every (λ (h : Handed). Below 256 h.bytes) hs
-    → Every (λ h. h.refusal ≡ 0) (rooms_hearings (fresh_rooms seat) (map room_bytes (sent_to_desk seat (words_sent ws hs))))
+    → Every (λ h. h.refusal ≡ 0)
+    (rooms_hearings (fresh_rooms seat) (map room_bytes (sent_to_desk seat (words_sent ws hs))))
 code_heard_in_rooms seat lt ws s f hs e =
     rw (words_sent_lem ws hs (sound_is ws s), sent_agree (table_of ws) (fresh_table (office_of seat)) f (events_of hs))
     (desk_accepts seat lt (events_of hs) (events_fit hs e))

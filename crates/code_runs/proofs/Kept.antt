@@ -20,7 +20,8 @@ use Rattle.rules.specs.Rules.{Written, fresh}
 use Rattle.rules.specs.MarkFile.{good_file}
 use Rattle.rules.specs.Leaving.{Action, actions_of, left_in}
 use Rattle.rules.specs.Refusals.{read_check, bytes_of, restart_of, event_of}
-use Rattle.rules.specs.Tables.{Table, well_table, RoomEvent, restart_table, TableResult, act_table, no_event, record_event}
+use Rattle.rules.specs.Tables.{Table, well_table, RoomEvent, restart_table, TableResult, act_table, no_event}
+use Rattle.rules.specs.Tables.{record_event}
 use Rattle.rules.specs.Tables.{take_table}
 use Rattle.rule_laws.proofs.Leaving.{order_passes}
 use Rattle.rule_laws.proofs.Tables.{act_2, act_3, take_table_by}
@@ -142,7 +143,8 @@ module _ (own : ℕ) (lt : own < 16) (out : List ℕ) (fits : high_length ≤ le
     file_at_lem t = rw (at_turn t, s.file) (filed_as (room_of (bytes_in t)) q.file (done_by q (read_turn t)))
 
     left_by : (t : WordsTurn)
-        → sent_by (moves_at own out k t) ≡ map room_bytes (roomed (room_of (bytes_in t)) (left_in (done_by q (read_turn t))))
+        → sent_by (moves_at own out k t)
+        ≡ map room_bytes (roomed (room_of (bytes_in t)) (left_in (done_by q (read_turn t))))
     left_by t =
         let room = room_of (bytes_in t) in
         let done = done_by q (read_turn t) in

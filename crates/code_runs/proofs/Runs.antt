@@ -80,14 +80,16 @@ run_sound ws (h ∷ hs) s = run_sound (words_answer ws h).words hs (still_sound 
 
 -- in a room
 module _ (ws : List ℕ) (s : SoundTable ws) (hs : List Handed) (room : ℕ) (l : room < room_count) where
-  pub in_room_run : Holds (row_at (words_after ws hs) room) (state_after (table_of ws room) (inputs_in room (events_of hs)))
+  pub in_room_run :
+      Holds (row_at (words_after ws hs) room) (state_after (table_of ws room) (inputs_in room (events_of hs)))
   in_room_run =
       let r = words_run ws hs (sound_is ws s) in (
         sound_row_lem _ (sound_rows _ (run_sound ws hs s) room l),
         ap (λ (t : Table). t room) r.1 ∙ (room_run room l (table_of ws) (sound_table_lem ws s) (events_of hs)).after,
       )
 
-  pub in_room_sent : of_room room (words_sent ws hs) ≡ sent_in (log_of (table_of ws room) (inputs_in room (events_of hs)))
+  pub in_room_sent : of_room room (words_sent ws hs)
+      ≡ sent_in (log_of (table_of ws room) (inputs_in room (events_of hs)))
   in_room_sent =
       ap (of_room room) (words_sent_lem ws hs (sound_is ws s))
       ∙ (room_run room l (table_of ws) (sound_table_lem ws s) (events_of hs)).sent

@@ -26,8 +26,8 @@ use Rattle.rule_laws.proofs.Tables.{take_table_by}
 use Rattle.runs.specs.Office.{OfSeats, log_of, sent_in}
 use Rattle.rooms.specs.Roomed.{Roomed, roomed, of_room, room_bytes}
 use Rattle.rooms.specs.Handing.{Handed, answer_table, next_table, table_sent, inputs_in}
-use Rattle.rooms.specs.Server.{Server, ServerTurn, serves_all, stops_after, served_at, done_by, next_server, fresh_server}
-use Rattle.rooms.specs.Server.{server_left, turns_in}
+use Rattle.rooms.specs.Server.{Server, ServerTurn, serves_all, stops_after, served_at, done_by, next_server}
+use Rattle.rooms.specs.Server.{fresh_server, server_left, turns_in}
 use Rattle.rooms.proofs.Isolation.{room_run, inputs_every}
 use Rattle.rooms.proofs.Server.{server_handed, fresh_served, room_turns}
 use Rattle.desk.specs.Hearing.{fresh_desk}

@@ -36,7 +36,7 @@ use Rattle.sheet.specs.Sheet.{records_on, counts, sync_checks, came_along}
 use Rattle.sheet.specs.Answers.{NoneCounts, GoodRecord, Tells, missing_seat}
 use Rattle.sheet.proofs.Exits.{missing_tells}
 use Rattle.desk_runs.specs.Sent.{for_seat, sent_to, hearings, desk_after}
-use Rattle.desk_runs.specs.Syncs.{sync_after, SyncFor}
+use Rattle.desk_runs.specs.Syncs.{SyncFor}
 use Rattle.desk_runs.proofs.Runs.{every_accepted}
 
 -- what a sound seat writes is no bad record
@@ -72,7 +72,8 @@ hearings_append : (room : ℕ) (d : Desk) (a b : List Written)
 unfolding hearings runs
 hearings_append room d [] b = refl
 hearings_append room d (w ∷ a) b =
-    ap (λ (l : List Heard). hear_of d (bytes_of room w) ∷ l) (hearings_append room (hear_of d (bytes_of room w)).desk a b)
+    ap (λ (l : List Heard). hear_of d (bytes_of room w) ∷ l)
+    (hearings_append room (hear_of d (bytes_of room w)).desk a b)
 
 -- what is sent to a seat is for it
 all_for : (seat : ℕ) (ws : List Written) → Every (λ w. for_seat seat w ≡ true) (sent_to seat ws)

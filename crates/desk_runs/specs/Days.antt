@@ -65,9 +65,9 @@ that_day = reports seat0 0 ∷ reports seat4 0 ∷ office1 1 1 0 0 ∷ reports 0
 
 -- what comes of bytes at a seat; to unfold it is to unfold the seat's rules
 unfoldable pub hearing : Desk → List ℕ → Heard
-unfolding anyb tab bytes_all bit has contains_of office_of serves encode_notice encode_view decode_notice decode_view mark_of
-    room_of check_for check_either fresh_desk
-    made_desk seat_record_of too_high lacks_seat seat_checks hear_checks after_record hear_of
+unfolding anyb tab bytes_all bit has contains_of office_of serves encode_notice encode_view decode_notice decode_view
+    mark_of room_of check_for check_either fresh_desk made_desk seat_record_of too_high lacks_seat seat_checks
+    hear_checks after_record hear_of
 hearing d b = hear_of d b
 
 unfoldable pub computed_day : List Heard
