@@ -5,8 +5,7 @@ use Rattle.runs.specs.World.{Item, WorldEvent}
 use Rattle.settling.specs.Statement.{SettlesUncut}
 use Rattle.claims.specs.Demand1.{Demand1}
 use Rattle.claims.specs.Demand2.{Demand2}
-use Rattle.claims.specs.Requests.{Request1, Request2, Request3, Request4, Request5, Request6, Request7}
-use Rattle.claims.specs.Requests.{Request8}
+use Rattle.claims.specs.Requests.{Request1, Request2, Request3, Request4, Request5, Request6, Request7, Request8}
 use Rattle.claims.specs.Rooms.{Request9}
 use Rattle.claims.specs.Reading.{Request10}
 use Rattle.claims.specs.Using.{Request11}

@@ -21,8 +21,7 @@ use Rattle.rules.specs.MarkFile.{good_file}
 use Rattle.rules.specs.Leaving.{Action, actions_of, left_in}
 use Rattle.rules.specs.Refusals.{read_check, bytes_of, restart_of, event_of}
 use Rattle.rules.specs.Tables.{Table, well_table, RoomEvent, restart_table, TableResult, act_table, no_event}
-use Rattle.rules.specs.Tables.{record_event}
-use Rattle.rules.specs.Tables.{take_table}
+use Rattle.rules.specs.Tables.{record_event, take_table}
 use Rattle.rule_laws.proofs.Leaving.{order_passes}
 use Rattle.rule_laws.proofs.Tables.{act_2, act_3, take_table_by}
 use Rattle.rule_laws.proofs.TableSteps.{step_table_takes}
