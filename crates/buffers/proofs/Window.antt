@@ -73,6 +73,9 @@ pub waits_short : (ended : Bool) (w : List ℕ) (n : ℕ) → ended ≡ false �
 unfolding waits_of
 waits_short ended w n e h g = rw (e, le-ltb (length w) 2 h, g)
 
+-- for the function waits
+pub ruleset waiting = (waits_ended, waits_few, waits_short)
+
 pub data Waits (ended : Bool) (w : List ℕ) : Type 0 where
   waits : ended ≡ false → length w < buffer_length → waits_of ended w ≡ true → (2 ≤ length w → run_check w ≡ 0 → ⊥)
       → Waits ended w

@@ -6,6 +6,8 @@ ghost use Rattle.buffers.specs.Room.{buffer_length};
 ghost use Rattle.buffers.specs.Place.{Within, window_of, waits_of, ReadBy, Refilled};
 
 use crate::retry::tries_left;
+use std::io::Read as _;
+use std::rt::Clock;
 
 // Of the input buffer the bytes from `at` to `end` are still to be answered, of the output buffer the first `filled`
 // still to be written. `ended` says that the input has no more, `number` how many records were answered.
@@ -46,39 +48,38 @@ pub(crate) fn to_front(buf: &mut [u8], at: usize, n: usize)
 }
 
 // What the input has next, at most as much as fits; it is waited for.
-pub fn read_some(part: &mut [u8]) -> Read
+pub fn read_some(rt: &(impl Input + Clock), part: &mut [u8]) -> Read
     requires { 0 < length part.old }
     ensures { ReadBy (length part.new) result }
 {
-    let mut answer: isize = 0;
+    let mut answer = Ok(0);
     let mut tries = u64::MAX;
     while tries > 0 {
-        answer = libc::read(0, part);
-        tries = tries_left(answer, tries);
+        answer = rt.reader().read(part);
+        tries = tries_left(rt, &answer, tries);
     }
-    if answer < 0 {
-        return Read {
+    match answer {
+        Ok(got) => Read {
+            got,
+            ended: got == 0,
+            failed: false,
+        },
+        Err(_) => Read {
             got: 0,
             ended: false,
             failed: true,
-        };
-    }
-    let got = io::count(answer, part);
-    Read {
-        got,
-        ended: got == 0,
-        failed: false,
+        },
     }
 }
 
 // What is still to be answered goes to the front of the buffer, and what the input has next behind it.
-pub fn refill(p: Place, input: &mut [u8]) -> Grown
+pub fn refill(rt: &(impl Input + Clock), p: Place, input: &mut [u8]) -> Grown
     requires { Within p × (length input.old ≡ buffer_length) × (p.end - p.at < buffer_length) }
     ensures { Refilled p input.old result input.new }
 {
     let n = p.end - p.at;
     to_front(input, p.at, n);
-    let read = read_some(&mut input[n..]);
+    let read = read_some(rt, &mut input[n..]);
     let place = Place {
         ended: read.ended,
         at: 0,
@@ -93,6 +94,7 @@ pub fn refill(p: Place, input: &mut [u8]) -> Grown
 }
 
 // Whether more input can change what stands in front.
+#[tactic(auto, using(crate::proofs::Window::waiting), unfolding(crate::specs::Place::window_of))]
 pub fn waits(p: Place, input: &[u8]) -> bool
     requires { Within p × (length input.now ≡ buffer_length) }
     ensures { result ≡ waits_of p.ended (window_of p input.now) }

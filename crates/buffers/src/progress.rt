@@ -5,18 +5,19 @@ ghost use Rattle.buffers.specs.Progress.{Emptied, LineFits, Told};
 
 use crate::input::{Place, to_front};
 use crate::output::{due, flush, has_room};
+use std::rt::Clock;
 use step::answers::Answer;
 
 // What is unwritten is written before the program waits, and where a line could have no room; what a failed write left
 // over goes to the front.
-pub fn emptied(p: Place, output: &mut [u8], waiting: bool) -> Place
+pub fn emptied(rt: &(impl Print + Clock), p: Place, output: &mut [u8], waiting: bool) -> Place
     requires { p.filled ≤ length output.old }
     ensures { Emptied p waiting output.old result output.new }
 {
     if has_room(p.filled, waiting) {
         return p;
     }
-    let sent = flush(1, due(output, p.filled));
+    let sent = flush(rt, rt, due(output, p.filled));
     let left = p.filled - sent;
     to_front(output, sent, left);
     Place {

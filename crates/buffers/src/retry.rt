@@ -1,40 +1,34 @@
 // A call that failed, inner to the program: whether it is tried again.
 ghost use Rattle.std.specs.Prelude.{◌<◌};
 
-use libc::types::timespec;
+use std::io::ErrorKind;
+use std::rt::Clock;
+use std::time::Duration;
+use std::{io, thread};
 
-// Five milliseconds, or less where a signal comes.
-fn pause() {
-    let asked = timespec {
-        tv_sec: 0,
-        tv_nsec: 5000000,
-    };
-    let mut left = timespec {
-        tv_sec: 0,
-        tv_nsec: 0,
-    };
-    libc::nanosleep(&asked, &mut left);
+fn pause(clock: &impl Clock) {
+    thread::sleep(clock, Duration::from_millis(5));
 }
 
 // Whether a call that has just failed is to be tried again: at once where a signal came in between, after a pause
 // where the other end is not ready.
-fn again() -> bool {
-    let error = os::errno();
-    if error == libc::EAGAIN {
-        pause();
+fn again(clock: &impl Clock, error: &io::Error) -> bool {
+    let kind = error.kind();
+    if kind == ErrorKind::WouldBlock {
+        pause(clock);
         return true;
     }
-    error == libc::EINTR
+    kind == ErrorKind::Interrupted
 }
 
 // How often a call may still be tried: no more where it moved bytes, met the end or failed for good. A loop has to
 // end, so tries are counted down from a number that no run uses up.
-pub fn tries_left(answer: isize, tries: u64) -> u64
+pub fn tries_left(clock: &impl Clock, answer: &io::Result<usize>, tries: u64) -> u64
     requires { 0 < tries }
     ensures { result < tries }
 {
-    if answer >= 0 {
+    let Err(error) = answer else {
         return 0;
-    }
-    if again() { tries - 1 } else { 0 }
+    };
+    if again(clock, error) { tries - 1 } else { 0 }
 }
