@@ -36,12 +36,12 @@ regroup' : (o t r p x : List ℕ) → (o ++ (t ++ r)) ++ (p ++ x) ≡ ((o ++ t) 
 regroup' o t r p x = simp append_assoc
 
 -- whatever comes later, what was written and what is due are the text for the input
-run_text : {traced more : Bool} {office n : ℕ} {ws input output : List ℕ} {b : Stand}
+run_text : {traced : Bool} {office : ℕ} {ws : List ℕ} {more : Bool} {n : ℕ} {input output : List ℕ} {b : Stand}
     → Run traced office ws n input output more b
     → (f : List ℕ) → (b.ended ≡ true → f ≡ [])
     → lines_of traced office (table_of ws) 0 (input ++ f) ≡ output ++ due traced office more b f
 run_text begun f e = refl
-run_text {traced} {office = office} {ws = ws} (turned {n} {input} {output} {a} sent {more} {b} r k) f e =
+run_text {traced} {office} {ws} (turned {n} {input} {output} {a} sent {more} {b} r k) f e =
     rw (append_assoc input k.got f) (run_text r (k.got ++ f) later
     ∙ rw (k.text f e, k.buffer)
     (ap (λ (u : List ℕ). output ++ (u ++ (k.printed ++ rest))) (sym (take-append-drop sent a.unwritten))
@@ -69,11 +69,11 @@ record Sofar (traced : Bool) (office : ℕ) (ws input output : List ℕ) (b : St
   lines : (f : List ℕ) → lines_of traced office (table_of ws) 0 (flatten parts ++ f)
       ≡ (output ++ b.unwritten) ++ lines_of traced office (table_of b.words) b.number f
 
-run_sofar : {traced more : Bool} {office n : ℕ} {ws input output : List ℕ} {b : Stand}
+run_sofar : {traced : Bool} {office : ℕ} {ws : List ℕ} {more : Bool} {n : ℕ} {input output : List ℕ} {b : Stand}
     → Run traced office ws n input output more b → more ≡ true → Sofar traced office ws input output b
 unfolding flatten
 run_sofar begun m = record { parts = []; whole = none; count = refl; read = refl; lines = λ f. refl }
-run_sofar {traced} {office = office} {ws = ws} (turned {n} {input} {output} {a} sent {more} {b} r k) m =
+run_sofar {traced} {office} {ws} (turned {n} {input} {output} {a} sent {more} {b} r k) m =
     go (run_sofar r refl) (k.takes m)
   where
     go : Sofar traced office ws input output a

@@ -10,7 +10,9 @@ ghost use Rattle.feed.specs.TurnReady.{Lent};
 ghost use Rattle.feed.specs.Whole.{Ran};
 
 use buffers::input::{Place, read_some};
-use buffers::output::{due, flush};
+use buffers::output::{BUFFER, due, flush};
+use std::env::FillError;
+use std::rt::{Clock, Env};
 use turning::turn;
 
 // A record answered: the table that the program holds, and the line behind what is unwritten.
@@ -42,6 +44,7 @@ fn turns_left(more: bool, failed: bool, turns: u64) -> u64
 
 // Turn after turn, until the input has ended, a record is refused by 4 or 5, or a read or a write fails.
 fn turns(
+    rt: &(impl Input + Print + Clock),
     office: u8,
     table: &mut [u32],
     input: &mut [u8],
@@ -65,7 +68,7 @@ fn turns(
     let mut unread = false;
     let mut left = u64::MAX;
     while left > 0 {
-        let t = turn(office, table, place, input, out, output, traced);
+        let t = turn(rt, office, table, place, input, out, output, traced);
         let next = t.place;
         place = next;
         more = t.more;
@@ -82,37 +85,47 @@ fn turns(
 }
 
 // One plain sentence where the output cannot be written; the program then ends.
-fn tell_unwritten() {
-    flush(2, b"The output cannot be written.\n");
+fn tell_unwritten<C: Clock, E: Print>(clock: &C, errors: &E) {
+    flush(clock, errors, b"The output cannot be written.\n");
 }
 
 // One plain sentence where the input cannot be read; the program then ends.
-fn tell_unread() {
-    flush(2, b"The input cannot be read.\n");
+fn tell_unread<C: Clock, E: Print>(clock: &C, errors: &E) {
+    flush(clock, errors, b"The input cannot be read.\n");
 }
 
 // One sentence for whoever starts the program with an argument.
-fn tell_input() {
+fn tell_input<C: Clock, E: Print>(clock: &C, errors: &E) {
     flush(
-        2,
+        clock,
+        errors,
         b"No argument is read; standard input is one byte, the office, then reports and proposals end to end.\n",
     );
 }
 
 // What is still unwritten is written, unless a write has failed; where a read has failed, nothing is unwritten.
-fn finish(output: &[u8], filled: usize, failed: bool, unread: bool)
+fn finish<R: Print + Clock, E: Print>(
+    rt: &R,
+    errors: &E,
+    output: &[u8],
+    filled: usize,
+    failed: bool,
+    unread: bool,
+)
     requires { filled ≤ length output.now }
 {
     if unread {
-        tell_unread();
+        tell_unread(rt, errors);
         return;
     }
-    if failed || flush(1, due(output, filled)) < filled {
-        tell_unwritten();
+    if failed || flush(rt, rt, due(output, filled)) < filled {
+        tell_unwritten(rt, errors);
     }
 }
 
-fn serve(
+fn serve<R: Input + Print + Clock, E: Print>(
+    rt: &R,
+    errors: &E,
     office: u8,
     table: &mut [u32],
     input: &mut [u8],
@@ -122,9 +135,9 @@ fn serve(
 )
     requires { Lent office table.old input.old out.old output.old }
 {
-    let e = turns(office, table, input, out, output, traced);
+    let e = turns(rt, office, table, input, out, output, traced);
     let place = e.place;
-    finish(output, place.filled, e.failed, e.unread);
+    finish(rt, errors, output, place.filled, e.failed, e.unread);
 }
 
 // The line where no office can be served.
@@ -141,9 +154,9 @@ struct First {
     office: u8,
 }
 
-fn first_byte() -> First {
+fn first_byte(rt: &(impl Input + Clock)) -> First {
     let mut byte = [0u8; 1];
-    let read = read_some(&mut byte);
+    let read = read_some(rt, &mut byte);
     let office = if read.ended { 16 } else { byte[0] };
     First {
         unread: read.failed,
@@ -160,18 +173,20 @@ fn make_table(office: u8, table: &mut [u32]) -> bool
 }
 
 // The office served, or the one line where there is none.
-fn open(office: u8, traced: bool) {
+fn open<R: Input + Print + Clock, E: Print>(rt: &R, errors: &E, office: u8, traced: bool) {
     let mut table = [0u32; step::WORDS];
     if !make_table(office, &mut table) {
-        if flush(1, &no_office()) < 8 {
-            tell_unwritten();
+        if flush(rt, rt, &no_office()) < 8 {
+            tell_unwritten(rt, errors);
         }
         return;
     }
-    let mut input = io::large_buffer();
-    let mut output = io::large_buffer();
+    let mut input = [0u8; BUFFER];
+    let mut output = [0u8; BUFFER];
     let mut out = [0u8; step::ROOM];
     serve(
+        rt,
+        errors,
         office,
         &mut table,
         &mut input,
@@ -181,16 +196,17 @@ fn open(office: u8, traced: bool) {
     );
 }
 
-// The program; `traced` has the bytes written behind each line. The first argument is its own name.
-pub fn run(traced: bool) {
-    if os::arg_count() > 1 {
-        tell_input();
+// The program: what `rt` reads and prints are its records and lines, `errors` prints what went wrong; `traced` has the
+// bytes written behind each line. The first argument is its own name.
+pub fn run<R: Input + Print + Clock + Env, E: Print>(rt: &R, errors: &E, traced: bool) {
+    if !matches!(rt.arg(1, &mut []), Err(FillError::NotPresent)) {
+        tell_input(rt, errors);
         return;
     }
-    let first = first_byte();
+    let first = first_byte(rt);
     if first.unread {
-        tell_unread();
+        tell_unread(rt, errors);
         return;
     }
-    open(first.office, traced);
+    open(rt, errors, first.office, traced);
 }

@@ -9,6 +9,7 @@ use crate::answering::{Advanced, answer};
 use buffers::input::{Place, refill, waits};
 use buffers::output::has_room;
 use buffers::progress::emptied;
+use std::rt::Clock;
 
 // `sent` of the unwritten bytes were written; `failed` says that the others could not be, `unread` that the input
 // could not be read.
@@ -23,6 +24,7 @@ pub struct Turned {
 
 // More of the input where that can change what stands in front; else the record in front; nothing at the input's end.
 fn advance(
+    rt: &(impl Input + Clock),
     office: u8,
     table: &mut [u32],
     p: Place,
@@ -38,7 +40,7 @@ fn advance(
         table.new input.new output.new }
 {
     if waiting {
-        let grown = refill(p, input);
+        let grown = refill(rt, p, input);
         let place = grown.place;
         return Advanced {
             more: !grown.unread,
@@ -57,6 +59,7 @@ fn advance(
 }
 
 pub fn turn(
+    rt: &(impl Input + Print + Clock),
     office: u8,
     table: &mut [u32],
     p: Place,
@@ -70,10 +73,10 @@ pub fn turn(
         table.new input.new output.new }
 {
     let waiting = waits(p, input);
-    let q = emptied(p, output, waiting);
+    let q = emptied(rt, p, output, waiting);
     let sent = p.filled - q.filled;
     if has_room(q.filled, waiting) {
-        let advanced = advance(office, table, q, input, out, output, waiting, traced);
+        let advanced = advance(rt, office, table, q, input, out, output, waiting, traced);
         let next = advanced.place;
         Turned {
             more: advanced.more,
