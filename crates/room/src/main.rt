@@ -1,6 +1,6 @@
 // The program of document 01: a line for each record.
 #![tactic(auto)]
 
-fn main() {
-    feed::run(false);
+fn main(rt: HostRuntime) {
+    feed::run(&rt, &rt.stderr(), false);
 }

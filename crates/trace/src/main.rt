@@ -1,6 +1,6 @@
 // The same program with the bytes written behind each line.
 #![tactic(auto)]
 
-fn main() {
-    feed::run(true);
+fn main(rt: HostRuntime) {
+    feed::run(&rt, &rt.stderr(), true);
 }
