@@ -212,7 +212,7 @@ peak large long
 same 'an input of 39 megabytes' expected got
 holds 'memory does not grow with the input' [ "$(cat large)" -le "$(($(cat small) + 1024))" ]
 
-# Where nobody reads the output any more, a write fails as any other does: the program leaves the signal for that unheard.
+# Where nobody reads the output any more, a write fails as any other does: the signal for that goes unheard.
 env --default-signal=PIPE "$room" <long 2>got_said | head -n 1 >got
 printf 'The output cannot be written.\n' >expected_said
 same 'a closed pipe' expected_said got_said
