@@ -19,11 +19,13 @@ use Rattle.desk.specs.declared.checks.Desk.{Desk}
 use Rattle.desk.specs.declared.Heard.{Heard}
 use Rattle.desk.specs.Hearing.{made_desk, hear_of}
 use Rattle.desk.specs.Syncing.{sync_bytes}
-use Rattle.desk.specs.Rooms.{SeatMachine, RoomsDesk, RoomsHeard, desk_in, machine_of, in_every_room, made_rooms, hear_rooms}
-use Rattle.desk.proofs.RoomsLaws.{room_refusal, room_machine, rooms_seat, others_stay, refusal_stays, room_accepted}
+use Rattle.desk.specs.Rooms.{SeatMachine, RoomsDesk, RoomsHeard, desk_in, machine_of, in_every_room, made_rooms}
+use Rattle.desk.specs.Rooms.{hear_rooms}
+use Rattle.desk.proofs.RoomsLaws.{room_refusal, room_machine, others_stay, refusal_stays, room_accepted}
 use Rattle.desk.proofs.RoomsLaws.{no_sync_in, sync_in_lem}
 use Rattle.calls.specs.DeskWords.{desk_length, is_desk, machine_place, machine_at, desk_of, machine_words}
-use Rattle.calls.specs.DeskWords.{machines_words, desk_words, fresh_in_words, heard_in_words, hear_in_words, sync_in_words}
+use Rattle.calls.specs.DeskWords.{machines_words, desk_words, fresh_in_words, heard_in_words, hear_in_words}
+use Rattle.calls.specs.DeskWords.{sync_in_words}
 
 pub length_machines : (n : ℕ) (machine : ℕ → SeatMachine) → length (machines_words n machine) ≡ 3 * n
 unfolding machines_words
@@ -232,7 +234,8 @@ module _ (ws b : List ℕ) (whole : is_desk ws ≡ true) where
       Holds = (desk_of (hear_in_words ws b).words).machine room ≡ h.desk.machine room
 
       stays : ((i : ℕ) → machine_place room ≤ i → i < machine_place room + 3
-          → get_or (hear_in_words ws b).words i 0 ≡ get_or ws i 0) → (desk_of ws).machine room ≡ h.desk.machine room → Holds
+          → get_or (hear_in_words ws b).words i 0 ≡ get_or ws i 0) → (desk_of ws).machine room ≡ h.desk.machine room
+          → Holds
       stays w e =
           rw (
             w (machine_place room) (omega arith) (omega arith),

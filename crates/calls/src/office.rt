@@ -1,5 +1,5 @@
-// What an office at work calls from C: a table in the caller's words, the bytes of a report, the step, the number of the
-// current view of a room; include/room.h declares it.
+// What an office at work calls from C: a table in the caller's words, the bytes of a report, the step, the number of
+// the current view of a room; include/room.h declares it.
 ghost use Rattle.std.specs.Prelude.{◌≡◌, ◌≤◌};
 ghost use Rattle.records.specs.Write.{Placed};
 ghost use Rattle.rules.specs.Refusals.{full_room};
