@@ -189,7 +189,7 @@ unfolding state_of
 net_changed ws x r =
     let z = r.long in
     let at : (p k : ℕ) → p ≡ net_place + k → k < 2
-        → get_or (sets ws net_place (set_words x)) p 0 ≡ get_or (set_words x) k 0 =
+    → get_or (sets ws net_place (set_words x)) p 0 ≡ get_or (set_words x) k 0 =
     λ p k e l. in_first ws net_place (set_words x) 0 [] p k e l (omega arith) (λ a b. omega arith) in
     let k = kept ws net_place (set_words x) 0 [] net_place members_place 0 0 (omega arith) (omega arith) (omega arith)
     (omega arith) in
