@@ -154,7 +154,7 @@ for doc in README.md docs/*.md docs/landings/HOUSE.md; do
 done
 
 # the crates: a heading of crates.txt up to its first colon, semicolon or comma; then | `crate` | modules | what |
-layers() { sed -nE 's/^# ([a-z][^:;,]*).*/# \1/p; s/^([a-z_]+):.*/\1/p' crates.txt; }
+layers() { sed -nE 's/^# ([a-z][^:;,]*).*/# \1/p; s/^([a-z_]+)( staticlib)?:.*/\1/p' crates.txt; }
 tabled() { sed -nE 's/^## ([^:;,]*).*/# \l\1/p; s/^\| `([a-z_]+)` \|.*/\1/p' docs/CRATES.md; }
 while IFS= read -r line; do
     case $line in
