@@ -214,6 +214,8 @@ holds 'memory does not grow with the input' [ "$(cat large)" -le "$(($(cat small
 
 # Where nobody reads the output any more, a write fails as any other does: the signal for that goes unheard.
 env --default-signal=PIPE "$room" <long 2>got_said | head -n 1 >got
+status=${PIPESTATUS[0]}
+holds 'a closed pipe, and an end' [ "$status" = 0 ]
 printf 'The output cannot be written.\n' >expected_said
 same 'a closed pipe' expected_said got_said
 printf '1 0 0 0\n' >expected

@@ -19,7 +19,7 @@ use Rattle.rules.specs.Leaving.{puts_all, actions_from, file_after, left_in}
 use Rattle.runs.specs.World.{net_one, net_by, Item, SentView, views_in, World, at_first, Underway, nothing_begun}
 use Rattle.runs.specs.World.{begun_report, begun_delivery, WorldEvent, report, delivery, loss, cut, answered, with_link}
 use Rattle.runs.specs.World.{idle, begun_writes, taken_up, cut_answer, report_answer, proposal_answer, next, run, at}
-pub use Rattle.runs.specs.Plays.{change, changes, join_begun}
+pub use Rattle.runs.specs.Plays.{change, join, leave, hand, join_begun, changes, hands, three}
 use Rattle.runs.specs.Files.{FileEvent, done_at, next_filed, plainly, filed_first}
 use Rattle.settling.specs.Statement.{on_way, deliveries}
 
