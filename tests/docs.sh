@@ -35,7 +35,9 @@ declare -A there=() defined=()
 while IFS= read -r path; do there[$path]=yes there[${path##*/}]=yes; done < <(
     find . \( -path ./target -o -path ./.git \) -prune -o -print | sed 's|^\./||'
 )
-mapfile -t theory < <(find crates -name '*.antt' ! -name Proof.antt)
+mapfile -t theory < <(
+    find crates -name '*.antt' ! -path '*/proofs/*/Answers.antt' ! -path '*/proofs/*/Invariants.antt'
+)
 mapfile -t code < <(find crates -name '*.rt')
 while IFS= read -r entry; do defined[$entry]=yes; done < <(
     awk '/^ *(--|use |$)/ { next }
@@ -105,6 +107,8 @@ for doc in README.md docs/*.md docs/landings/HOUSE.md; do
 
     while IFS=: read -r line _; do fault "$doc:$line: 120 characters or more"; done < <(grep -nE '.{120}' "$doc")
     checked
+    # that page says what was called otherwise, and what is gone
+    [ "$doc" != docs/PORT.md ] || continue
 
     while IFS= read -r path; do
         case $path in
