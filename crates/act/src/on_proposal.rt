@@ -1,27 +1,26 @@
 // What an accepted proposal does: the rule on the row of words of one office in one room, changed in place, and the
 // records written behind one another.
-ghost use Rattle.std.specs.Prelude.{true, ◌≡◌, ◌≤◌, ◌<◌, length};
+ghost use Rattle.std.specs.Prelude.{true, ◌≡◌, ◌≤◌, ◌<◌};
 ghost use Rattle.rules.specs.Rules.{proposal_rule};
 ghost use Rattle.records.specs.Numbers.{limit};
-ghost use Rattle.rules.specs.Refusals.{full_room, well_formed};
-ghost use Rattle.row.specs.Row.{Row, state_of};
-ghost use Rattle.event_parts.specs.Did.{Did};
+ghost use Rattle.rules.specs.Refusals.{well_formed};
+ghost use Rattle.row.specs.Held.{held_mut};
+ghost use Rattle.event_parts.specs.Done.{Done, HasFullRoom};
 
 use crate::round_tests::tests;
-use event_parts::receive;
+use event_parts::{Output, receive};
 use records::Proposal;
+use row::RowMut;
 
-pub fn act_on_proposal(s: &mut [u32], p: Proposal, out: &mut [u8], room: u8) -> usize
-    requires row { Row s.old × (well_formed (state_of s.old) ≡ true) × (full_room ≤ length out.old) }
+pub fn act_on_proposal(row: &mut RowMut, p: Proposal, out: &mut Output)
+    requires row { (well_formed (held_mut row.old) ≡ true) × HasFullRoom out.old }
     requires sender_bound { (p.sender < 16) × (p.start ≤ limit) × (p.number ≤ limit) }
-    ensures { Did room (λ u. proposal_rule u p) s.old out.old 0 s.new
-        out.new result }
+    ensures { Done (λ u. proposal_rule u p) row.old out.old row.new out.new }
 {
-    let net = row::net(s);
-    let members = p.members;
-    receive(s, p);
-    if !members.equals(net) {
-        return 0;
+    let net = row.get().net();
+    receive(row, p);
+    if p.members != net {
+        return;
     }
-    tests(s, out, 0, room)
+    tests(row, out);
 }

@@ -4,8 +4,11 @@ use mathlib.Core.Bool.{Bool, true, false, not, ◌&&◌, ◌||◌, and-false}
 use Prim.Native.Nat.{ℕ, ◌-◌, ◌^◌, ◌<◌}
 use native.Mathlib.Omega.{arith}
 use lib.Bits.{bit_and, and_le_l}
-use borrow.Author.Tests.{not-true}
-use Rattle.laws.proofs.Fin.{and_l, and_r}
+use lib.Dec.{eqb}
+use borrow.Author.Tests.{not-true, eq-eqb, ne_eqb}
+use Rattle.std.specs.Prelude.{Option, is_some, unwrap_or, IfSome}
+use Rattle.std.specs.Prelude as Found
+use Rattle.laws.proofs.Fin.{and_l, and_r, true_false}
 use Rattle.laws.proofs.Loops.{all_fails}
 use Rattle.seats.specs.Seats.{has}
 use Rattle.seats.specs.Offices.{serves, offices_of, lowest_of}
@@ -18,7 +21,7 @@ use Rattle.rules.specs.Rules.{view, nothing_written, agrees_kind, agrees_in, is_
 use Rattle.rules.specs.Rules.{agreement_test}
 use Rattle.row.specs.Row.{presence}
 use Rattle.row.proofs.Presence.{has_presence, presence_lt}
-use Rattle.event_parts.proofs.Dids.{one}
+use Rattle.event_parts.proofs.Dones.{one}
 
 pub agreement_not : (s : State) → agreed s ≡ false → nothing_written s ≡ agreement_test s
 unfolding agreement_test
@@ -65,3 +68,11 @@ absent_disagrees s b e some =
     both =
         sym (has_and (offices_of s.net.bits) (2 ^ 16 - 1 - presence s) (lowest_of b))
         ∙ ap (λ (x : ℕ). has x (lowest_of b)) (sym e) ∙ low_in below some refl
+
+-- no office is found exactly where the lowest is 16
+pub none_found : (r : Option ℕ) (b : Bool) (n : ℕ) → is_some r ≡ not b → unwrap_or r 16 ≡ n → IfSome r (λ o. o < 16)
+    → b ≡ eqb n 16
+none_found Found.None true n e w l = sym (eq-eqb n 16 (sym w))
+none_found Found.None false n e w l = absurd (true_false false e refl)
+none_found (Found.Some o) true n e w l = absurd (true_false true refl e)
+none_found (Found.Some o) false n e w l = sym (ne_eqb n 16 (λ q. omega arith))

@@ -27,11 +27,12 @@ agrees_by_lem s Fast e n o = rw e (sym (and-true _))
 agrees_by_lem s Slow e n o = rw e
 
 -- the code's answer b at office o
-pub agrees_by_code : (s : State) → is_none s.mode ≡ false → (kind number : ℕ) (net : SeatSet) (o : ℕ) (b : Bool)
-    → kind ≡ kind_of s.mode
-    → number ≡ s.number → net ≡ s.net → b ≡ not (agrees_by kind number net.bits (stored_at s o))
+pub agrees_by_code : (s : State) → is_none s.mode ≡ false
+    → (mode : Mode) (number : ℕ) (net : SeatSet) (o : ℕ) (b : Bool)
+    → mode ≡ s.mode
+    → number ≡ s.number → net ≡ s.net → b ≡ not (agrees_by (kind_of mode) number net.bits (stored_at s o))
     → agrees_in s.mode s o ≡ not b
-agrees_by_code s n kind number net o b x y z e = agrees_by_lem s s.mode refl n o ∙ back _ _ (rw (x, y, z) at e)
+agrees_by_code s n mode number net o b x y z e = agrees_by_lem s s.mode refl n o ∙ back _ _ (rw (x, y, z) at e)
   where
     back : (a b : Bool) → b ≡ not a → a ≡ not b
     back true b q = rw q

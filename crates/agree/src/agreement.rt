@@ -1,40 +1,44 @@
 // The agreement test, on the row of an office.
 ghost use Rattle.std.specs.Prelude.{◌≡◌};
 ghost use Rattle.rules.specs.Rules.{agreed, agreement_test};
-ghost use Rattle.row.specs.Row.{Row, state_of};
-ghost use Rattle.event_parts.specs.Did.{Did, Fits};
+ghost use Rattle.row.specs.Held.{held, held_mut};
+ghost use Rattle.event_parts.specs.Done.{Done, HasRoom};
 ghost use Rattle.event_parts.specs.Bounds.{reach, Bounded};
 
 use crate::lacking::lowest_lacking;
 use crate::new_view::view_of;
 use crate::round_end::conclude;
-use record_bytes::views::write_view;
+use event_parts::Output;
+use records::InRoom;
+use row::{Mode, Row, RowMut};
 use seats::offices::touched;
 
 // Where nothing at all is stored for an office of the net view, which is so of most events, no proposal is looked at.
-fn agreed(s: &[u32]) -> bool
-    requires { Row s.now }
-    ensures { result ≡ agreed (state_of s.now) }
+fn agreed(row: Row) -> bool
+    ensures { result ≡ agreed (held row.entry) }
 {
-    if row::mode(s) == 0 {
+    if row.mode() == Mode::None {
         return false;
     }
-    let offices = touched(row::net(s));
-    if offices.bits & !row::present(s) != 0 {
+    let offices = touched(row.net());
+    if offices.bits & !row.present() != 0 {
         return false;
     }
-    lowest_lacking(s) == 16
+    lowest_lacking(row).is_none()
 }
 
-pub fn agreement_test(s: &mut [u32], out: &mut [u8], at: usize, room: u8) -> usize
-    requires { Row s.old × Bounded reach (state_of s.old) × Fits agreement_test s.old out.old at }
-    ensures { Did room agreement_test s.old out.old at s.new
-        out.new result }
+pub fn agreement_test(row: &mut RowMut, out: &mut Output)
+    requires { Bounded reach (held_mut row.old) × HasRoom agreement_test row.old out.old }
+    ensures { Done agreement_test row.old out.old row.new out.new }
 {
-    if !agreed(s) {
-        return at;
+    let held = row.get();
+    if !agreed(held) {
+        return;
     }
-    let view = view_of(s);
-    conclude(s, view);
-    at + write_view(out, at, view, room)
+    let view = view_of(held);
+    conclude(row, view);
+    out.write(InRoom {
+        room: out.room,
+        record: view,
+    });
 }

@@ -16,7 +16,7 @@ use Rattle.buffers.specs.Place.{unwritten_of}
 use Rattle.buffers.specs.declared.input.Place.{Place}
 use Rattle.buffers.specs.Room.{buffer_length, room_for}
 use Rattle.buffers.proofs.Room.{put_behind}
-use Rattle.step.specs.declared.answers.Answer.{Answer}
+use Rattle.step.specs.Answers.{Answer}
 use Rattle.buffers.specs.Progress.{sent_from, Emptied, Told}
 
 -- nothing is written where the program may go on
@@ -58,15 +58,15 @@ emptied_some p {waiting} o {o'} sent l r f s e =
         ∙ sets_front o rest (omega (arith, size))
 
 pub told : (traced : Bool) (p : Place) (taken : ℕ) (a : Answer) (view : ℕ) (out : List ℕ)
-    {o o' : List ℕ} {k next most : ℕ}
-    → k ≡ ifb traced a.written 0
-    → Put most o p.filled (line_of (p.number + 1) a.refusal a.written view (take k out)) next o'
+    {o o' : List ℕ} {refusal written k next most : ℕ} → refusal ≡ a.refusal → written ≡ a.written
+    → k ≡ ifb traced written 0
+    → Put most o p.filled (line_of (p.number + 1) refusal written view (take k out)) next o'
     → p.filled + most ≤ buffer_length → length o ≡ buffer_length
     → Told traced p taken a view out o
     (record { ended = p.ended; at = p.at + taken; end = p.end; filled = next; number = p.number + 1 }) o'
 unfolding unwritten_of
-told traced p taken a view out k put room lo = record {
+told traced p taken a view out f w k put room lo = record {
   place = refl;
   filled = omega (arith, put.short);
-  line = put_behind put (omega (arith, put.short, put.place)) ∙ rw k;
+  line = put_behind put (omega (arith, put.short, put.place)) ∙ rw (k, f, w);
 }

@@ -4,41 +4,40 @@ use mathlib.Core.Bool.{Bool, true, false}
 use mathlib.Core.Logic.{◌⊎◌, inl, inr}
 use mathlib.Core.List.{List, ◌++◌}
 use Prim.Native.Nat.{ℕ, ◌+◌, ◌-◌, ◌≤◌, ◌<◌}
+use Rattle.std.specs.Prelude.{Result, Ok, Err, IfOk, IsErr}
 use native.Mathlib.Omega.{arith}
-use lib.ListN.{length, get_or, set, take, drop, length-drop, length-append}
-use lib.Seq.{sets, length-take-le, get_or-drop, drop_at, drop-drop, take-append-add, take-append-le}
+use lib.ListN.{length, take, drop, length-drop, length-append}
+use lib.Seq.{paste, sets-eq, sets, length-take-le, drop_at, drop-drop, take-append-add, take-append-le}
 use lib.Dec.{eqb, ltb}
 use borrow.Author.Tests.{eqb-true, eqb-false, ltb-true, ltb-false, lt-ltb, le-ltb, ne_eqb}
 use Rattle.laws.proofs.Fin.{true_false}
-use Rattle.laws.proofs.Big.{sets_front, sets_rest}
-use Rattle.laws.proofs.Seqs.{store_turn, drop_take}
+use Rattle.laws.proofs.Big.{sets_front}
+use Rattle.laws.proofs.Seqs.{drop_take}
 use Rattle.records.specs.Run.{run_check, run_size}
 use Rattle.buffers.specs.Room.{buffer_length}
-use Rattle.buffers.specs.Place.{Within, window_of, waits_of, ReadBy, Refilled}
+use Rattle.buffers.specs.Place.{Within, window_of, waits_of, Read, read_of, ReadBy, grown_of, Refilled}
 use Rattle.buffers.specs.declared.input.Place.{Place}
-use Rattle.buffers.specs.declared.input.Read.{Read}
 use borrow.Rule.Slice.PartMut.{put_mid, post_of}
 use Rattle.text.specs.Lines.{front_of, behind_of}
 use Rattle.records.proofs.RunLaws.{Front, nothing, other, short, whole, front, size_le}
 use Rattle.records.proofs.Growing.{short_ends, whole_long}
 use Rattle.text.proofs.LineLaws.{front_behind}
 
--- one more byte that goes to the front: it stands where it did, behind what has been put there
-pub front_more : (o : List ℕ) (at i : ℕ) → at + i < length o
-    → set (sets o 0 (take i (drop at o))) i (get_or (sets o 0 (take i (drop at o))) (at + i) 0)
-    ≡ sets o 0 (take (i + 1) (drop at o))
-front_more o at i h =
-    let b = drop at o in
-    let p = sets o 0 (take i b) in
-    let n : length (take i b) ≡ i = length-take-le i b (simp length-drop (omega arith)) in
-    let r : drop i p ≡ drop i o = rw n at (sets_rest o (take i b) (omega arith)) in
-    let w : at + i ≡ i + at = omega arith in
-    let z : 0 + i ≡ i = omega arith in
-    let e : get_or p (at + i) 0 ≡ get_or b i 0 =
-    ap (λ (k : ℕ). get_or p k 0) w ∙ sym (get_or-drop i p at 0) ∙ ap (λ (l : List ℕ). get_or l at 0) r ∙ get_or-drop i o at 0
-    ∙ ap (λ (k : ℕ). get_or o k 0) (sym w) ∙ sym (get_or-drop at o i 0) in
-    let m : i < length b = simp length-drop (omega arith) in
-    rw e (rw z at (store_turn o b 0 i 0 m))
+-- bytes pasted over the front
+pub pasted : (o : List ℕ) (at n : ℕ) → at + n ≤ length o
+    → paste o 0 (drop at o) (at + n - at) ≡ sets o 0 (take n (drop at o))
+pasted o at n h =
+    let b = take n (drop at o) in
+    let z : at + n - at ≡ n = omega arith in
+    let l : length b ≡ n = length-take-le n (drop at o) (simp length-drop (omega arith)) in
+    rw z (sym (sets-eq b o 0 (omega (arith, l)) ∙ ap (λ (k : ℕ). take 0 o ++ (b ++ drop (0 + k) o)) l))
+
+-- what a read answers where it moves no more bytes than fit
+pub read_fits : {E : Type 0} {most : ℕ} (answer : Result ℕ E) → IfOk answer (λ n. n ≤ most)
+    → ReadBy most (read_of answer)
+read_fits (Ok n) h = record { fits = h; ended = λ f. refl; failed = λ f. absurd (true_false false f refl) }
+read_fits (Err e) h =
+    record { fits = omega arith; ended = λ f. absurd (true_false true refl f); failed = λ f. (refl, refl) }
 
 pub window_length : (p : Place) (i : List ℕ) → p.at ≤ p.end → p.end ≤ length i
     → length (window_of p i) ≡ p.end - p.at
@@ -68,10 +67,10 @@ pub waits_few : (ended : Bool) (w : List ℕ) → ended ≡ false → length w <
 unfolding waits_of
 waits_few ended w e h = rw (e, lt-ltb (length w) 2 h)
 
-pub waits_short : (ended : Bool) (w : List ℕ) (n : ℕ) → ended ≡ false → 2 ≤ length w → n ≡ run_check w
-    → eqb n 5 ≡ waits_of ended w
+pub waits_short : (ended : Bool) (w : List ℕ) (n : ℕ) (b : Bool) → ended ≡ false → 2 ≤ length w → n ≡ run_check w
+    → b ≡ eqb n 5 → b ≡ waits_of ended w
 unfolding waits_of
-waits_short ended w n e h g = rw (e, le-ltb (length w) 2 h, g)
+waits_short ended w n b e h g t = rw (t, e, le-ltb (length w) 2 h, g)
 
 -- for the function waits
 pub ruleset waiting = (waits_ended, waits_few, waits_short)
@@ -164,6 +163,19 @@ refilled p i i₁ v b h l e le lv is = record {
         let z : n + got - 0 ≡ length w + got = omega (arith, lw) in
         rw (front_is, z) (take-append-add w (v ++ post_of n (length i₁ - n) i₁) got
         ∙ ap (λ (t : List ℕ). w ++ t) (take-append-le got v (post_of n (length i₁ - n) i₁) g))
+
+-- a read that failed leaves the window at the front
+pub refill_failed : {T E : Type 0} (p : Place) (i i₁ v : List ℕ) (r : Result T E) → Within p
+    → length i ≡ buffer_length → i₁ ≡ sets i 0 (take (p.end - p.at) (drop p.at i)) → length i₁ ≡ length i
+    → length v ≡ buffer_length - (p.end - p.at)
+    → ReadBy (length v) (record { got = 0; ended = false; failed = true }) → IsErr r
+    → Refilled p i
+    (grown_of r (record { ended = false; at = 0; end = p.end - p.at; filled = p.filled; number = p.number }))
+    (put_mid (p.end - p.at) (length i₁ - (p.end - p.at)) i₁ v)
+refill_failed p i i₁ v (Ok t) h l e le lv is f = absurd (true_false false f refl)
+refill_failed p i i₁ v (Err t) h l e le lv is f =
+    let z : p.end - p.at + 0 ≡ p.end - p.at = omega arith in
+    rw z at (refilled p i i₁ v _ h l e le lv is)
 
 -- the record in front ends where the window does, or before
 pub front_fits : (p : Place) (i : List ℕ) {b : List ℕ} → length i ≡ buffer_length → Within p

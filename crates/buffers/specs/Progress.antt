@@ -6,7 +6,7 @@ use Rattle.text.specs.Text.{line_of}
 use Rattle.buffers.specs.Place.{unwritten_of}
 use Rattle.buffers.specs.declared.input.Place.{Place}
 use Rattle.buffers.specs.Room.{buffer_length, most_line, room_for}
-use Rattle.step.specs.declared.answers.Answer.{Answer}
+use Rattle.step.specs.Answers.{Answer}
 
 -- the place after a write of some of the unwritten bytes
 abbrev pub sent_from : Place → ℕ → Place

@@ -1,8 +1,8 @@
 // The output buffer of the program, inner to it: those of its bytes answered and not yet written.
-ghost use Rattle.std.specs.Prelude.{◌≡◌, ◌≤◌, MatchResult, length, take};
+ghost use Rattle.std.specs.Prelude.{◌≡◌, ◌≤◌, IfOk, MatchResult, length, take};
 ghost use Rattle.buffers.specs.Room.{room_for};
 
-use crate::retry::tries_left;
+use crate::retry::again;
 use std::io;
 use std::rt::Clock;
 
@@ -20,29 +20,27 @@ pub fn due<'a>(output: &'a [u8], filled: usize) -> &'a [u8]
     &output[..filled]
 }
 
-// What a write answered, and how many bytes it took.
-#[derive(Drop)]
-struct Wrote {
-    answer: io::Result<usize>,
-    took: usize,
+// What a write of a part answers; an error is a failure for good. A loop has to end, so no more tries are made than any
+// run uses up. It is the loop of `read_some` with another call; of a closure that captures a part, and may be called
+// in a state with another, no contract bounds the count by the part's length.
+fn write_some<C: Clock, W: Print>(clock: &C, to: &W, part: &[u8]) -> io::Result<usize>
+    ensures { IfOk result (λ n. n ≤ length part.now) }
+{
+    let mut answer = to.write_some(part);
+    for _ in 0..u64::MAX {
+        if !again(clock, &answer) {
+            break;
+        }
+        answer = to.write_some(part);
+    }
+    answer
 }
 
-// What counts as written of a part is what the write answered; none where it failed for good.
-fn write_some<C: Clock, W: Print>(clock: &C, to: &W, part: &[u8]) -> Wrote
-    ensures answered { MatchResult result.answer (λ n. result.took ≡ n) (λ e. result.took ≡ 0) }
-    ensures few { result.took ≤ length part.now }
+// What counts as written is what the write answered; none where it failed for good.
+fn counted(answer: io::Result<usize>) -> usize
+    ensures { MatchResult answer (λ n. result ≡ n) (λ e. result ≡ 0) }
 {
-    let mut answer = Ok(0);
-    let mut tries = u64::MAX;
-    while tries > 0 {
-        answer = to.write_some(part);
-        tries = tries_left(clock, &answer, tries);
-    }
-    let took = match answer {
-        Ok(n) => n,
-        Err(_) => 0,
-    };
-    Wrote { answer, took }
+    answer.unwrap_or(0)
 }
 
 // Writes a part and answers how many of its bytes count as written: as many as the writes took, each behind the one
@@ -50,15 +48,15 @@ fn write_some<C: Clock, W: Print>(clock: &C, to: &W, part: &[u8]) -> Wrote
 pub fn flush<C: Clock, W: Print>(clock: &C, to: &W, part: &[u8]) -> usize
     ensures { result ≤ length part.now }
 {
-    let mut done: usize = 0;
-    while done < part.len() {
-        let put = write_some(clock, to, &part[done..]);
-        if put.took == 0 {
-            return done;
+    let mut rest = part;
+    while !rest.is_empty() {
+        let put = counted(write_some(clock, to, rest));
+        if put == 0 {
+            break;
         }
-        done += put.took;
+        rest = &rest[put..];
     }
-    done
+    part.len() - rest.len()
 }
 
 // Whether the program may go on before it writes: nothing is unwritten where it will wait, else a line has room.

@@ -1,4 +1,6 @@
 -- desks: the words that are written, the calls at each exit, and what the words hold then.
+use Rattle.std.specs.Prelude.{Result, Ok, Err}
+use Rattle.std.specs.Result.{result_unwrap_or}
 use mathlib.Core.Path.{◌≡◌, refl, sym, ap, ◌∙◌}
 use mathlib.Core.Bool.{Bool, true, false, not}
 use mathlib.Core.List.{List, [], ◌∷◌}
@@ -15,9 +17,11 @@ use Rattle.laws.proofs.Loops.{flag}
 use Rattle.laws.proofs.Seqs.{sets_append, sets_all, get_or_sets_out, get_or_sets_at}
 use Rattle.records.specs.Numbers.{room_count, room_above}
 use Rattle.records.specs.Layout.{room_of}
+use Rattle.records.specs.declared.refusal.Refusal.{Refusal}
+use Rattle.records.specs.Refusals.{number, refusal_of}
 use Rattle.desk.specs.declared.checks.Desk.{Desk}
-use Rattle.desk.specs.declared.Heard.{Heard}
-use Rattle.desk.specs.Hearing.{made_desk, hear_of}
+use Rattle.desk.specs.Hearing.{Heard, heard_as, fresh_desk, made_desk, hear_of}
+use Rattle.desk.proofs.Refusals.{refusal_some}
 use Rattle.desk.specs.Syncing.{sync_bytes}
 use Rattle.desk.specs.Rooms.{SeatMachine, RoomsDesk, RoomsHeard, desk_in, machine_of, in_every_room, made_rooms}
 use Rattle.desk.specs.Rooms.{hear_rooms}
@@ -25,7 +29,7 @@ use Rattle.desk.proofs.RoomsLaws.{room_refusal, room_machine, others_stay, refus
 use Rattle.desk.proofs.RoomsLaws.{no_sync_in, sync_in_lem}
 use Rattle.calls.specs.DeskWords.{desk_length, is_desk, machine_place, machine_at, desk_of, machine_words}
 use Rattle.calls.specs.DeskWords.{machines_words, desk_words, fresh_in_words, heard_in_words, hear_in_words}
-use Rattle.calls.specs.DeskWords.{sync_in_words}
+use Rattle.calls.specs.DeskWords.{InWords, sync_in_words}
 
 pub length_machines : (n : ℕ) (machine : ℕ → SeatMachine) → length (machines_words n machine) ≡ 3 * n
 unfolding machines_words
@@ -109,24 +113,53 @@ no_words ws room l above =
     past i h = get_or-eq_default ws 0 {n = i} (omega arith)
 
 -- words of another length
-module _ (ws : List ℕ) (other : is_desk ws ≡ false) where
+module _ (ws : List ℕ) (other : false ≡ is_desk ws) where
   pub fresh_other : (seat : ℕ) → record { refusal = 6; words = ws } ≡ fresh_in_words seat ws
   unfolding fresh_in_words
-  fresh_other seat = rw other
+  fresh_other seat = rw (sym other)
 
   pub sync_other : (room : ℕ) → sync_in_words ws room ≡ []
   unfolding sync_in_words
-  sync_other room = rw other
+  sync_other room = rw (sym other)
 
   pub hear_other : (b : List ℕ) → record { refusal = 6; words = ws } ≡ hear_in_words ws b
   unfolding hear_in_words
-  hear_other b = rw other
+  hear_other b = rw (sym other)
 
-module _ (ws : List ℕ) (whole : is_desk ws ≡ true) where
-  pub fresh_made : (seat : ℕ) (m : Heard) (ws' : List ℕ) → m ≡ made_desk seat → ws' ≡ desk_words (in_every_room m.desk)
-      → record { refusal = m.refusal; words = ws' } ≡ fresh_in_words seat ws
+-- a refused seat leaves the desk of zeros, which is the fresh seat 0
+zeros : (s t v : ℕ) (c : Bool) → s ≡ 0 → t ≡ 0 → v ≡ 0 → c ≡ false
+    → record { seat = s; start = t; view = v; changing = c } ≡ fresh_desk 0
+unfolding fresh_desk
+zeros s t v c d e f g = rw (d, e, f, g)
+
+pub default_left : (m : Result Desk Refusal) (z : Desk) → z.seat ≡ 0 → z.start ≡ 0 → z.view ≡ 0 → z.changing ≡ false
+    → result_unwrap_or m z ≡ (heard_as (fresh_desk 0) m).desk
+default_left (Ok e) z a b c d = refl
+default_left (Err r) z a b c d = zeros _ _ _ _ a b c d
+
+module _ (ws : List ℕ) (is : true ≡ is_desk ws) where
+  whole : is_desk ws ≡ true
+  whole = sym is
+
+  pub desk_whole : length ws ≡ desk_length
+  desk_whole = eqb-true (length ws) desk_length whole
+
+  -- made, or the fresh seat 0 with the refusal
+  pub fresh_made : (seat : ℕ) (m : Result Desk Refusal) → heard_as (fresh_desk 0) m ≡ made_desk seat → (d : Desk)
+      → d ≡ (heard_as (fresh_desk 0) m).desk → (n : ℕ) → n ≡ refusal_of m → (ws' : List ℕ)
+      → ws' ≡ desk_words (in_every_room d)
+      → record { refusal = n; words = ws' } ≡ fresh_in_words seat ws
   unfolding fresh_in_words made_rooms
-  fresh_made seat m ws' e d = rw (whole, d, e)
+  fresh_made seat m e d q n z ws' w = rw (whole, w, q, z, ← e) (same m)
+    where
+      same : (m : Result Desk Refusal) → ◌≡◌ {A = InWords}
+          (record { refusal = refusal_of m; words = desk_words (in_every_room (heard_as (fresh_desk 0) m).desk) })
+          (record {
+            refusal = (heard_as (fresh_desk 0) m).refusal;
+            words = desk_words (in_every_room (heard_as (fresh_desk 0) m).desk);
+          })
+      same (Ok e) = refl
+      same (Err r) = refl
 
   pub sync_above_lem : (room : ℕ) → room_above room ≡ true → sync_in_words ws room ≡ []
   unfolding sync_in_words
@@ -136,23 +169,30 @@ module _ (ws : List ℕ) (whole : is_desk ws ≡ true) where
   unfolding sync_in_words
   sync_words room a = rw whole (sync_in_lem (desk_of ws) room (leb-false room_count room a))
 
-  module _ (b : List ℕ) (h : Heard) (e : h ≡ hear_of (desk_in (desk_of ws) (room_of b)) b) where
-    refused : (hear_rooms (desk_of ws) b).refusal ≡ h.refusal
-    refused = room_refusal (desk_of ws) b ∙ ap (λ (x : Heard). x.refusal) (sym e)
+  module _ (b : List ℕ) where
+    abbrev before : Desk
+    before = desk_in (desk_of ws) (room_of b)
 
-    pub hear_kept : (h.refusal ≡ 0 → ⊥) → record { refusal = h.refusal; words = ws } ≡ hear_in_words ws b
+    pub hear_kept : (e : Refusal) → record { refusal = number e; desk = before } ≡ hear_of before b
+        → record { refusal = number e; words = ws } ≡ hear_in_words ws b
     unfolding hear_in_words
-    hear_kept n = rw (whole, refused, ne_eqb h.refusal 0 n)
+    hear_kept e is =
+        let q : number e ≡ (hear_of before b).refusal = ap (λ (x : Heard). x.refusal) is in
+        rw (whole, room_refusal (desk_of ws) b, ← q, refusal_some e)
 
     -- what is accepted is of one of the eight rooms
-    pub room_in : h.refusal ≡ 0 → room_of b < room_count
-    room_in z = room_accepted (desk_of ws) b (refused ∙ z)
+    module _ (after : Desk) (heard : record { refusal = 0; desk = after } ≡ hear_of before b) where
+      accepted : (hear_rooms (desk_of ws) b).refusal ≡ 0
+      accepted = room_refusal (desk_of ws) b ∙ ap (λ (x : Heard). x.refusal) (sym heard)
 
-    pub hear_changed : h.refusal ≡ 0 → (ws' : List ℕ)
-        → ws' ≡ sets ws (machine_place (room_of b)) (machine_words (machine_of h.desk))
-        → record { refusal = 0; words = ws' } ≡ hear_in_words ws b
-    unfolding hear_in_words
-    hear_changed z ws' d = rw (whole, refused, z, d, room_machine (desk_of ws) b, ← e)
+      pub room_in : room_of b < room_count
+      room_in = room_accepted (desk_of ws) b accepted
+
+      pub hear_changed : (ws' : List ℕ)
+          → ws' ≡ sets ws (machine_place (room_of b)) (machine_words (machine_of after))
+          → record { refusal = 0; words = ws' } ≡ hear_in_words ws b
+      unfolding hear_in_words
+      hear_changed ws' d = rw (whole, accepted, d, room_machine (desk_of ws) b, ← heard)
 
 -- what a word of a written flag says
 flag_back : (b : Bool) → not (eqb (ifb {A = ℕ} b 1 0) 0) ≡ b
@@ -252,3 +292,14 @@ module _ (ws b : List ℕ) (whole : is_desk ws ≡ true) where
       go (no n) q =
           stays (λ i a c. rw (whole, ne_eqb h.refusal 0 n))
           (sym (refusal_stays (desk_of ws) b n room))
+
+-- what the code's proofs take from here
+pub ruleset read_laws = (no_words, machine_read)
+
+pub ruleset rooms_laws = (no_machines, machines_then, still_whole, all_written)
+
+pub ruleset fresh_laws = (fresh_other, fresh_made, desk_whole)
+
+pub ruleset hear_laws = (hear_other, hear_kept, room_in, hear_changed, desk_whole)
+
+pub ruleset sync_laws = (sync_words, desk_whole)

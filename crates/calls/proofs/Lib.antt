@@ -1,7 +1,9 @@
--- office
+-- office, questions
 mod Called
 mod ReportFits
 -- desks
 pub mod InDeskWords
+-- along
+mod AlongWords
 -- restarts
 mod RestartNumbers

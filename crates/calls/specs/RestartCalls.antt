@@ -2,7 +2,7 @@
 use Rattle.std.specs.Prelude.{List, ℕ, ◌+◌, ◌*◌}
 use Rattle.laws.specs.Upd.{ifb}
 use Rattle.rules.specs.MarkFile.{last_high, good_file}
-use Rattle.restart.specs.declared.leaving.DueMark.{DueMark}
+use Rattle.restart.specs.Before.{DueMark}
 use Rattle.restart.specs.Before.{before_of}
 use Rattle.calls.specs.Number.{call_number}
 

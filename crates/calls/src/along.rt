@@ -14,6 +14,7 @@ fn put_set(members: &mut u64, set: SeatSet)
 }
 
 // The set goes into the word lent; with a missing seat or a refusal the word stays.
+#[tactic(auto, using(crate::proofs::AlongWords::along_laws))]
 #[unsafe(no_mangle)]
 pub extern "C" fn room_came_along(
     sheet: &[u8],
@@ -26,7 +27,7 @@ pub extern "C" fn room_came_along(
 {
     match came_along(sheet, view, previous) {
         Along::Refused(n) => call_number(0, n),
-        Along::Missing(seat) => call_number(1 + seat as u16, 0),
+        Along::Missing(seat) => call_number(1 + u16::from(seat), 0),
         Along::Members(set) => {
             put_set(members, set);
             call_number(0, 0)

@@ -4,6 +4,7 @@ ghost use Rattle.records.specs.Layout.{check_of};
 ghost use Rattle.rules.specs.Tables.{read_of};
 ghost use Rattle.seats.specs.Offices.{offices_of, count_of};
 
+use crate::number::refusal_number;
 use seats::SeatSet;
 use seats::offices::touched;
 
@@ -12,15 +13,16 @@ use seats::offices::touched;
 pub extern "C" fn room_record_check(bytes: &[u8]) -> u8
     ensures { result ≡ check_of bytes.now }
 {
-    records::check(bytes)
+    refusal_number(records::check(bytes))
 }
 
 // The reading call's number for a record and an office: 1, 4, 5, 20, 6 to 10, 19, or 0.
+#[tactic(auto, using(crate::proofs::Called::read_refusal))]
 #[unsafe(no_mangle)]
 pub extern "C" fn room_read(office: u8, bytes: &[u8]) -> u8
     ensures { result ≡ (read_of office bytes.now).refusal }
 {
-    events::read_event(office, bytes).refusal
+    refusal_number(events::read_event(office, bytes))
 }
 
 // The offices of a seat set: bit o is set when office o has a seat in it.

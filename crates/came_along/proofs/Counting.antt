@@ -165,3 +165,5 @@ module _ (v : View) (previous : ℕ) where
               ≡ record { missing = record { bits = a }; same = record { bits = b } }
           go true e f = rw (e, f)
           go false e f = rw (e, f)
+
+pub ruleset counted_laws = (counted_other, counted_same)

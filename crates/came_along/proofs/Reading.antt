@@ -1,57 +1,62 @@
 -- checks: a record of a sheet, by what its reader tells.
-use mathlib.Core.Path.{◌≡◌, refl, ◌∙◌}
+use mathlib.Core.Path.{◌≡◌, refl, sym, ◌∙◌}
 use mathlib.Core.Bool.{Bool, true, false, not}
 use mathlib.Core.List.{List}
 use Prim.Native.Nat.{ℕ, ◌<◌}
 use native.Mathlib.Omega.{arith}
 use lib.ListN.{length}
 use lib.Dec.{eqb}
-use borrow.Author.Tests.{leb-false}
+use borrow.Author.Tests.{leb-false, eqb-false}
+use Rattle.laws.specs.Checks.{first_of}
 use Rattle.laws.specs.Upd.{ifb}
-use Rattle.laws.proofs.Checks.{first_none}
 use Rattle.seats.specs.Seats.{seat_count}
-use Rattle.records.specs.Layout.{sync_mark, sync_length, value_of, mark_of, decode_sync}
+use Rattle.records.specs.Layout.{sync_mark, sync_length, value_of, mark_of, check_own, decode_sync}
+use Rattle.records.specs.Refusals.{number}
 use Rattle.records.specs.declared.Sync.{Sync}
+use Rattle.records.specs.declared.refusal.Refusal.{Refusal}
 use Rattle.records.proofs.CheckLaws.{own_4}
-use Rattle.record_bytes.specs.declared.syncs.SyncRead.{SyncRead}
-use Rattle.record_bytes.specs.syncs.Read.{read_sync}
-use Rattle.record_bytes.proofs.syncs.Reading.{sync_refusal, sync_decoded}
-use Rattle.sheet.specs.Sheet.{no_seat, sync_above, sync_checks}
-use Rattle.came_along.specs.Record.{record_read}
+use Rattle.desk.proofs.Refusals.{refusal_some}
+use Rattle.sheet.specs.Sheet.{other_mark, no_seat, sync_above, sync_checks}
 
--- the reasons behind the mark, of a record that was read
-abbrev behind_mark : Sync → ℕ
-behind_mark r = ifb (no_seat r) 6 (ifb (sync_above r) 8 0)
+module _ (b : List ℕ) (size : length b ≡ sync_length) where
+  -- bytes of its length are refused for their mark
+  by_mark : check_own sync_mark sync_length b ≡ ifb (other_mark b) 4 0
+  by_mark = own_4 sync_mark sync_length b size (omega arith) ∙ go (eqb (mark_of b) (value_of sync_mark))
+    where
+      go : (t : Bool) → ◌≡◌ {A = ℕ} (ifb t 0 4) (ifb (not t) 4 0)
+      go true = refl
+      go false = refl
 
-pub by_reader : (b : List ℕ) → length b ≡ sync_length → (r : SyncRead) → r ≡ read_sync b
-    → ◌≡◌ {A = SyncRead} (record { refusal = ifb (not (eqb r.refusal 0)) 4 (behind_mark r.sync); sync = r.sync })
-    (record_read b)
-unfolding record_read sync_checks
-by_reader b size r e = rw e (go (eqb (mark_of b) (value_of sync_mark)) refl)
-  where
-    number : (t : Bool) → eqb (mark_of b) (value_of sync_mark) ≡ t → (read_sync b).refusal ≡ ifb t 0 4
-    number t d = sync_refusal b ∙ own_4 sync_mark sync_length b size (omega arith) ∙ rw d
+  pub record_4 : (e : Refusal) → number e ≡ check_own sync_mark sync_length b → number e ≡ first_of (sync_checks b)
+  unfolding sync_checks
+  record_4 e is = go (other_mark b) _ (is ∙ by_mark)
+    where
+      go : (t : Bool) (r : ℕ) → number e ≡ ifb t 4 0 → number e ≡ ifb t 4 r
+      go true r q = q
+      go false r q = absurd (eqb-false _ _ (refusal_some e) q)
 
-    go : (t : Bool) → eqb (mark_of b) (value_of sync_mark) ≡ t
-        → ◌≡◌ {A = SyncRead}
-        (record {
-          refusal = ifb (not (eqb (read_sync b).refusal 0)) 4 (behind_mark (read_sync b).sync);
-          sync = (read_sync b).sync;
-        })
-        (record { refusal = ifb (not t) 4 (behind_mark (decode_sync b)); sync = (read_sync b).sync })
-    go true d = let z : (read_sync b).refusal ≡ 0 = number true d in rw (z, sync_decoded b z)
-    go false d = rw (number false d)
+  module _ (read : 0 ≡ check_own sync_mark sync_length b) (s : Sync) (is : s ≡ decode_sync b) where
+    own : other_mark b ≡ false
+    own = go (other_mark b) (read ∙ by_mark)
+      where
+        go : (t : Bool) → ◌≡◌ {A = ℕ} 0 (ifb t 4 0) → t ≡ false
+        go true q = absurd (omega arith)
+        go false q = refl
 
--- a record that is not bad is what its bytes say, and its seat is one of the 64
-pub good_read : (b : List ℕ) → length b ≡ sync_length → (record_read b).refusal ≡ 0
-    → ((record_read b).sync ≡ decode_sync b) × ((decode_sync b).seat < seat_count)
-unfolding record_read sync_checks
-good_read b size z = go (eqb (mark_of b) (value_of sync_mark)) refl z
-  where
-    go : (t : Bool) → eqb (mark_of b) (value_of sync_mark) ≡ t → ifb (not t) 4 (behind_mark (decode_sync b)) ≡ 0
-        → ((read_sync b).sync ≡ decode_sync b) × ((decode_sync b).seat < seat_count)
-    go true d z = (
-      sync_decoded b (sync_refusal b ∙ own_4 sync_mark sync_length b size (omega arith) ∙ rw d),
-      leb-false seat_count (decode_sync b).seat ((first_none (no_seat (decode_sync b)) 5 _).0 z).0,
-    )
-    go false d z = absurd (omega arith)
+    pub record_6 : no_seat s ≡ true → 6 ≡ first_of (sync_checks b)
+    unfolding sync_checks
+    record_6 n = rw (own, sym is, n)
+
+    module _ (seat : no_seat s ≡ false) where
+      pub record_8 : sync_above s ≡ true → 8 ≡ first_of (sync_checks b)
+      unfolding sync_checks
+      record_8 a = rw (own, sym is, seat, a)
+
+      pub record_0 : sync_above s ≡ false → ◌≡◌ {A = ℕ} 0 (first_of (sync_checks b))
+      unfolding sync_checks
+      record_0 a = rw (own, sym is, seat, a)
+
+pub seat_below : (s : Sync) → no_seat s ≡ false → s.seat < seat_count
+seat_below s n = leb-false seat_count s.seat n
+
+pub ruleset record_laws = (record_4, record_6, record_8, record_0, seat_below)

@@ -1,5 +1,3 @@
--- checks
-pub mod Record
 -- sheet_pass
 pub mod Pass
 -- the answer, in lib.rt

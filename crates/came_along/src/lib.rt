@@ -2,15 +2,14 @@
 #![tactic(auto)]
 
 ghost use Rattle.std.specs.Prelude.{◌≡◌};
-ghost use Rattle.sheet.specs.Sheet.{records_on, came_along};
-ghost use Rattle.came_along.specs.Found.{found_answer, records_answer};
+ghost use Rattle.sheet.specs.Sheet.{came_along};
+ghost use Rattle.came_along.specs.Found.{answered};
 
-use checks::ask_refusal;
-use record_bytes::views::read_view;
-use records::View;
+use checks::Asked;
+use record_bytes::read;
 use records::numbers::room_above;
-use seats::SEATS;
-use sheet_pass::{Found, pass};
+use records::{InRoom, Refusal, View};
+use sheet_pass::Found;
 
 // What is asked and each record of a sheet, check by check.
 mod checks;
@@ -20,45 +19,29 @@ mod sheet_pass;
 
 pub use sheet::Along;
 
-// The lowest seat whose record is missing, or those whose record names the number.
-fn found_answer(found: Found) -> Along
-    ensures { result ≡ found_answer found }
+// What the records of a sheet say, where nothing is refused. The view is read first.
+#[tactic(auto, using(crate::proofs::Exits::found_laws))]
+fn found(sheet: &[u8], view: &[u8], previous: u32) -> Result<Found, Refusal>
+    ensures { answered result ≡ came_along sheet.now view.now previous }
 {
-    let missing = found.missing;
-    let seat = missing.lowest();
-    if seat < SEATS {
-        return Along::Missing(seat);
+    let told = read::<InRoom<View>>(view)?;
+    if room_above(told.room) {
+        return Err(Refusal::Room);
     }
-    let same = found.same;
-    Along::Members(same)
+    let asked = Asked {
+        view: told.record,
+        previous,
+    };
+    asked.check(sheet.len())?;
+    asked.pass(sheet)
 }
 
-// The records of a sheet: the number of the first bad one, else what they answer.
-fn records_answer(sheet: &[u8], v: View, previous: u32) -> Along
-    ensures { result ≡ records_answer v previous (records_on sheet.now) }
-{
-    let passed = pass(sheet, v, previous);
-    if passed.refusal != 0 {
-        return Along::Refused(passed.refusal);
-    }
-    found_answer(passed.found)
-}
-
-// Any sheet, any view, any number. The view is read first.
+// Any sheet, any view, any number.
 pub fn came_along(sheet: &[u8], view: &[u8], previous: u32) -> Along
     ensures { result ≡ came_along sheet.now view.now previous }
 {
-    let read = read_view(view);
-    if read.refusal != 0 {
-        return Along::Refused(read.refusal);
+    match found(sheet, view, previous) {
+        Ok(found) => found.answer(),
+        Err(e) => Along::Refused(u8::from(e)),
     }
-    if room_above(read.room) {
-        return Along::Refused(20);
-    }
-    let shown = read.view;
-    let refusal = ask_refusal(shown, previous, sheet.len());
-    if refusal != 0 {
-        return Along::Refused(refusal);
-    }
-    records_answer(sheet, shown, previous)
 }

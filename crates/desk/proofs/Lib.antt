@@ -1,8 +1,8 @@
 -- checks
 mod Reasons
 -- making and hearing
+pub mod Refusals
 pub mod HearingLaws
-mod Readers
 pub mod Accepted
 pub mod Taken
 -- syncing

@@ -1,15 +1,26 @@
 -- What a seat makes of a start notice or a view: the reasons to refuse, in the order of change requests 3 and 9, and
 -- what an accepted one leaves.
-use Rattle.std.specs.Prelude.{true, false, List, ◌∷◌, ℕ, eqb, leb}
+use Rattle.std.specs.Prelude.{true, false, List, ◌∷◌, ℕ, Result, Ok, Err, eqb, leb}
 use Rattle.laws.specs.Checks.{Check, numbered, first_of}
 use Rattle.laws.specs.Upd.{ifb}
 use Rattle.seats.specs.Seats.{seat_count}
 use Rattle.records.specs.Numbers.{room_above}
 use Rattle.records.specs.Layout.{notice_mark, notice_length, view_mark, view_length, value_of, mark_of, check_either}
 use Rattle.records.specs.Layout.{room_of, decode_notice, decode_view}
+use Rattle.records.specs.declared.refusal.Refusal.{Refusal}
+use Rattle.records.specs.Refusals.{number}
 use Rattle.desk.specs.declared.checks.Desk.{Desk}
 use Rattle.desk.specs.SeatChecks.{SeatRecord, a_notice, a_view, seat_checks}
-use Rattle.desk.specs.declared.Heard.{Heard}
+
+-- the refusal or 0, and the state that it leaves
+pub record Heard : Type 0 where
+  pub refusal : ℕ
+  pub desk : Desk
+
+-- what an answer leaves of a state: the new one, or the old one with the refusal
+abbrev pub heard_as : Desk → Result Desk Refusal → Heard
+heard_as d (Ok e) = record { refusal = 0; desk = e }
+heard_as d (Err r) = record { refusal = number r; desk = d }
 
 -- a fresh seat
 unfoldable pub fresh_desk : ℕ → Desk
@@ -39,6 +50,14 @@ hear_checks d b =
 unfoldable pub after_record : Desk → SeatRecord → Desk
 after_record d (a_notice n) = record { seat = d.seat; start = n.start; view = d.view; changing = true }
 after_record d (a_view v) = record { seat = d.seat; start = d.start; view = v.number; changing = false }
+
+-- a record that was read, in its room
+abbrev pub told_checks : Desk → ℕ → SeatRecord → List Check
+told_checks d room r = record { number = 20; applies = room_above room } ∷ seat_checks d r
+
+-- what a record leaves of a state, by the refusal or 0
+abbrev pub left_by : Desk → SeatRecord → ℕ → Heard
+left_by d r n = ifb (eqb n 0) (record { refusal = 0; desk = after_record d r }) (record { refusal = n; desk = d })
 
 -- any bytes on any state; a refusal leaves it as it was
 unfoldable pub hear_of : Desk → List ℕ → Heard

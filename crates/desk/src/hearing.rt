@@ -1,94 +1,97 @@
 // Taking a start notice or a view.
-ghost use Rattle.std.specs.Prelude.{◌≡◌, ◌<◌};
-ghost use Rattle.record_bytes.specs.notices.Read.{read_notice};
-ghost use Rattle.seats.specs.Seats.{seat_count};
-ghost use Rattle.desk.specs.SeatChecks.{a_notice, a_view};
-ghost use Rattle.desk.specs.Hearing.{after_record, hear_of};
+ghost use Rattle.std.specs.Prelude.{◌≡◌};
+ghost use Rattle.laws.specs.Checks.{first_of};
+ghost use Rattle.records.specs.Refusals.{refusal_of};
+ghost use Rattle.records.specs.Layout.{check_own, notice_mark, notice_length};
+ghost use Rattle.desk.specs.SeatChecks.{SeatRecord, a_notice, a_view, seat_checks};
+ghost use Rattle.desk.specs.Hearing.{after_record, hear_of, heard_as, left_by, told_checks};
 
-use crate::Heard;
-use crate::checks::{Desk, notice_refusal, view_refusal};
-use record_bytes::notices::read_notice;
-use record_bytes::views::read_view;
+use crate::checks::Desk;
+use crate::seated::Seated;
+use record_bytes::read;
 use records::numbers::room_above;
-use records::{Notice, View};
-use seats::SEATS;
+use records::{InRoom, Notice, Refusal, View};
 
-// The state handed in comes back with the number.
-fn refuse(desk: Desk, refusal: u8) -> Heard
-    ensures { result ≡ record { refusal = refusal; desk = desk } }
-{
-    Heard { refusal, desk }
+// What an office tells its seats.
+trait Told: Copy {
+    ghost told: { Self → SeatRecord };
+
+    // The first of the checks that applies to it.
+    fn check(self, seat: Seated) -> Result<(), Refusal>
+        ensures { refusal_of result ≡ first_of (seat_checks seat.desk (told self)) };
+
+    // What it leaves where it is accepted.
+    fn after(self, desk: Desk) -> Desk
+        ensures { result ≡ after_record desk (told self) };
 }
 
-// An accepted notice sets the start number and opens a change.
-fn after_notice(desk: Desk, n: Notice) -> Desk
-    ensures { result ≡ after_record desk (a_notice n) }
-{
-    Desk {
-        seat: desk.seat,
-        start: n.start,
-        view: desk.view,
-        changing: true,
+impl Told for Notice {
+    ghost told = { a_notice };
+
+    fn check(self, seat: Seated) -> Result<(), Refusal> {
+        seat.check_notice(self)
+    }
+
+    // It sets the start number and opens a change.
+    #[tactic(auto, unfolding(crate::specs::Hearing::after_record))]
+    fn after(self, desk: Desk) -> Desk {
+        Desk {
+            start: self.start,
+            changing: true,
+            ..desk
+        }
     }
 }
 
-// An accepted view sets the view number and closes the change.
-fn after_view(desk: Desk, v: View) -> Desk
-    ensures { result ≡ after_record desk (a_view v) }
-{
-    Desk {
-        seat: desk.seat,
-        start: desk.start,
-        view: v.number,
-        changing: false,
+impl Told for View {
+    ghost told = { a_view };
+
+    fn check(self, seat: Seated) -> Result<(), Refusal> {
+        seat.check_view(self)
     }
+
+    // It sets the view number and closes the change.
+    #[tactic(auto, unfolding(crate::specs::Hearing::after_record))]
+    fn after(self, desk: Desk) -> Desk {
+        Desk {
+            view: self.number,
+            changing: false,
+            ..desk
+        }
+    }
+}
+
+// A record that was read, in its room.
+#[tactic(auto, using(crate::proofs::HearingLaws::take_laws))]
+fn take<R: Told>(seat: Seated, told: InRoom<R>) -> Result<Desk, Refusal>
+    ensures { heard_as seat.desk result
+        ≡ left_by seat.desk (R.told told.record) (first_of (told_checks seat.desk told.room (R.told told.record))) }
+{
+    if room_above(told.room) {
+        return Err(Refusal::Room);
+    }
+    told.record.check(seat)?;
+    Ok(told.record.after(seat.desk))
 }
 
 // Bytes that have no notice's mark: the reader of views has the word.
-fn hear_view(desk: Desk, bytes: &[u8]) -> Heard
-    requires { (desk.seat < seat_count) × ((read_notice bytes.now).refusal ≡ 4) }
-    ensures { result ≡ hear_of desk bytes.now }
+#[tactic(auto, using(crate::proofs::HearingLaws::view_laws))]
+fn hear_view(seat: Seated, bytes: &[u8]) -> Result<Desk, Refusal>
+    requires { 4 ≡ check_own notice_mark notice_length bytes.now }
+    ensures { heard_as seat.desk result ≡ hear_of seat.desk bytes.now }
 {
-    let read = read_view(bytes);
-    if read.refusal != 0 {
-        return refuse(desk, read.refusal);
-    }
-    if room_above(read.room) {
-        return refuse(desk, 20);
-    }
-    let refusal = view_refusal(desk, read.view);
-    if refusal != 0 {
-        return refuse(desk, refusal);
-    }
-    Heard {
-        refusal: 0,
-        desk: after_view(desk, read.view),
-    }
+    take(seat, read::<InRoom<View>>(bytes)?)
 }
 
-// A start notice or a view, as its bytes. 4 from the reader of notices says that they have another mark.
-pub fn hear(desk: Desk, bytes: &[u8]) -> Heard
-    ensures { result ≡ hear_of desk bytes.now }
+// A start notice or a view, as its bytes.
+#[tactic(auto, using(crate::proofs::HearingLaws::hear_laws))]
+pub fn hear(desk: Desk, bytes: &[u8]) -> Result<Desk, Refusal>
+    ensures { heard_as desk result ≡ hear_of desk bytes.now }
 {
-    if (SEATS as u32) <= desk.seat {
-        return refuse(desk, 6);
-    }
-    let told = read_notice(bytes);
-    if told.refusal == 4 {
-        return hear_view(desk, bytes);
-    }
-    if told.refusal != 0 {
-        return refuse(desk, told.refusal);
-    }
-    if room_above(told.room) {
-        return refuse(desk, 20);
-    }
-    let found = notice_refusal(desk, told.notice);
-    if found != 0 {
-        return refuse(desk, found);
-    }
-    Heard {
-        refusal: 0,
-        desk: after_notice(desk, told.notice),
+    let seat = desk.seated()?;
+    match read::<InRoom<Notice>>(bytes) {
+        Ok(told) => take(seat, told),
+        Err(e) if e == Refusal::Mark => hear_view(seat, bytes),
+        Err(e) => Err(e),
     }
 }

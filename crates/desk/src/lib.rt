@@ -8,6 +8,9 @@ pub mod views;
 // A seat's state, and what it asks of a start notice or a view that was read.
 mod checks;
 
+// A desk whose seat is one of the 64.
+mod seated;
+
 // Making a seat.
 mod making;
 
@@ -21,10 +24,3 @@ pub use checks::Desk;
 pub use hearing::hear;
 pub use making::fresh_seat;
 pub use syncing::make_sync;
-
-// The refusal or 0, and the state that it leaves.
-#[derive(Clone, Copy)]
-pub struct Heard {
-    pub refusal: u8,
-    pub desk: Desk,
-}

@@ -24,8 +24,7 @@ use Rattle.rules.specs.Refusals.{bytes_of}
 use Rattle.runs.specs.Office.{Input, OfSeats, log_of, sent_in}
 use Rattle.desk.specs.declared.checks.Desk.{Desk}
 use Rattle.desk.specs.Views.{start_for}
-use Rattle.desk.specs.declared.Heard.{Heard}
-use Rattle.desk.specs.Hearing.{fresh_desk, hear_of}
+use Rattle.desk.specs.Hearing.{Heard, fresh_desk, hear_of}
 use Rattle.desk.specs.Syncing.{sync_of, sync_bytes}
 use Rattle.desk.proofs.Accepted.{SoundDesk}
 use Rattle.desk.proofs.HearingLaws.{seat_stays}

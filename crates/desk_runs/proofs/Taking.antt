@@ -10,8 +10,7 @@ use Rattle.rules.specs.Rules.{Written}
 use Rattle.rules.specs.Leaving.{own_number}
 use Rattle.rules.specs.Refusals.{bytes_of}
 use Rattle.desk.specs.declared.checks.Desk.{Desk}
-use Rattle.desk.specs.declared.Heard.{Heard}
-use Rattle.desk.specs.Hearing.{hear_of}
+use Rattle.desk.specs.Hearing.{Heard, hear_of}
 use Rattle.desk_runs.specs.Sent.{for_seat, sent_to, hearings, desk_after}
 
 -- of a record the seat takes no number above the one that it gives out

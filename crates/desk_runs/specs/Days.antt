@@ -16,9 +16,8 @@ use Rattle.rules.specs.Rules.{fresh}
 use Rattle.rules.specs.Refusals.{full_room, event_of}
 use Rattle.runs.specs.Office.{Input, log_of, sent_in}
 use Rattle.desk.specs.declared.checks.Desk.{Desk}
-use Rattle.desk.specs.declared.Heard.{Heard}
 use Rattle.desk.specs.SeatChecks.{too_high, lacks_seat, seat_checks}
-use Rattle.desk.specs.Hearing.{fresh_desk, made_desk, seat_record_of, hear_checks, after_record, hear_of}
+use Rattle.desk.specs.Hearing.{Heard, fresh_desk, made_desk, seat_record_of, hear_checks, after_record, hear_of}
 use Rattle.desk.specs.Rooms.{SeatMachine, RoomsDesk, RoomsHeard, fresh_rooms, hear_rooms}
 use Rattle.desk_runs.specs.Sent.{sent_to, hearings}
 use Rattle.desk_runs.specs.Rooms.{rooms_hearings, rooms_after}

@@ -6,8 +6,7 @@ use Rattle.seats.specs.Seats.{contains_of}
 use Rattle.rules.specs.Rules.{Written, notice, proposal, view}
 use Rattle.rules.specs.Refusals.{bytes_of}
 use Rattle.desk.specs.declared.checks.Desk.{Desk}
-use Rattle.desk.specs.declared.Heard.{Heard}
-use Rattle.desk.specs.Hearing.{hear_of}
+use Rattle.desk.specs.Hearing.{Heard, hear_of}
 
 -- a record is for the seat: a notice or view whose members hold it
 abbrev pub for_seat : ℕ → Written → Bool

@@ -1,13 +1,11 @@
 -- For opening and every later part: records written one after another.
 use mathlib.Core.Path.{◌≡◌, refl, sym, ap, ◌∙◌}
 use mathlib.Core.List.{List, [], ◌∷◌, ◌++◌}
-use Prim.Native.Nat.{ℕ, ◌+◌, ◌≤◌}
+use Prim.Native.Nat.{ℕ, ◌+◌}
 use native.Mathlib.Omega.{arith}
 use lib.ListN.{length}
 use lib.Seq.{sets}
-use borrow.Author.Tests.{le-leb}
 use Rattle.laws.proofs.Seqs.{sets_append}
-use Rattle.records.specs.Write.{Placed, placed, placed_count}
 use Rattle.rules.specs.Rules.{Written}
 use Rattle.rules.specs.Refusals.{bytes_of, all_bytes, size}
 use Rattle.rule_laws.proofs.Sizes.{bytes_append, size_append, bytes_one, size_bytes}
@@ -18,20 +16,13 @@ pub appended_none : {room : ℕ} (o : List ℕ) (at : ℕ) → Appended room o a
 unfolding all_bytes
 appended_none o at = record { place = omega arith; output = refl }
 
--- one record that has room
-pub appended_one : {room : ℕ} (o : List ℕ) (at : ℕ) (w : Written) (n : ℕ) (o' : List ℕ)
-    → at + size (w ∷ []) ≤ length o
-    → Placed o at (bytes_of room w) n o'
-    → Appended room o at (w ∷ []) (at + n) o'
-unfolding placed placed_count
-appended_one {room} o at w n o' fits h =
+-- one record
+pub appended_one : {room : ℕ} (o : List ℕ) (at : ℕ) (w : Written)
+    → Appended room o at (w ∷ []) (at + length (bytes_of room w)) (sets o at (bytes_of room w))
+appended_one {room} o at w =
     let e = bytes_one room w in
     let l : length (bytes_of room w) ≡ size (w ∷ []) = sym (ap length e) ∙ size_bytes room (w ∷ []) in
-    let below = le-leb (at + length (bytes_of room w)) (length o) (rw l fits) in
-    record {
-      place = ap (λ (k : ℕ). at + k) (rw below at h.count ∙ l);
-      output = rw below at h.output ∙ sym (ap (sets o at) e);
-    }
+    record { place = ap (λ (k : ℕ). at + k) l; output = sym (ap (sets o at) e) }
 
 -- more records after some
 pub appended_then : {room : ℕ} {o p q : List ℕ} {at m n : ℕ} {a b : List Written} → Appended room o at a m p

@@ -1,5 +1,5 @@
 -- The laws, in the order of the modules that they serve: opening and every later part; the crates above.
 mod Appended
-pub mod Dids
+pub mod Dones
 pub mod Made
 pub mod Bounding

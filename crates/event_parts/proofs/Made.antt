@@ -14,7 +14,7 @@ use Rattle.rules.specs.Rules.{proposed, has_recipient, proposes_fast, slow_numbe
 use Rattle.rule_laws.proofs.Parts.{made_is}
 use Rattle.rules.specs.State.{with_mode, with_number, with_start, with_stored}
 use Rattle.event_parts.specs.Parts.{counted_at}
-use Rattle.event_parts.proofs.Dids.{one}
+use Rattle.event_parts.proofs.Dones.{one}
 
 pub opens_is : (s : State) (start : ℕ) (net : SeatSet) → start ≡ max s.view.number (s.start + 1) → net ≡ s.net
     → one (with_start start) (notice (record { start = start; members = net })) s ≡ opens s

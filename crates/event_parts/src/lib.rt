@@ -2,11 +2,15 @@
 // parts follow one another.
 #![tactic(auto)]
 
-// What is counted, and the larger number.
+// What is counted.
 mod numbers;
+
+// Where records are written.
+mod output;
 
 // A proposal arrives; the start number rises.
 mod opening;
 
-pub use numbers::{counted, larger};
+pub use numbers::counted;
 pub use opening::{opens, receive};
+pub use output::Output;

@@ -1,40 +1,36 @@
 // A proposal arrives, the start number rises.
 ghost use Rattle.std.specs.Prelude.{◌<◌};
 ghost use Rattle.rules.specs.Rules.{opens};
-ghost use Rattle.row.specs.Row.{Row, state_of};
-ghost use Rattle.row.specs.Changes.{Changed};
-ghost use Rattle.event_parts.specs.Did.{Did, Fits};
+ghost use Rattle.row.specs.Held.{held_mut};
+ghost use Rattle.row.specs.Moved.{Moved};
+ghost use Rattle.event_parts.specs.Done.{Done, HasRoom};
 ghost use Rattle.event_parts.specs.Bounds.{reach, Bounded};
 ghost use Rattle.event_parts.specs.Parts.{receiving};
 
-use crate::numbers::larger;
-use record_bytes::notices::write_notice;
-use records::{Notice, Proposal};
+use crate::output::Output;
+use records::{InRoom, Notice, Proposal};
+use row::RowMut;
 
 // A proposal arrives.
-pub fn receive(s: &mut [u32], p: Proposal)
-    requires { Row s.old × (p.sender < 16) }
-    ensures { Changed (receiving p) s.old s.new }
+pub fn receive(row: &mut RowMut, p: Proposal)
+    requires { p.sender < 16 }
+    ensures { Moved (receiving p) row.old row.new }
 {
-    let o = p.sender as usize;
-    row::slots::put_stored(s, o, p);
-    row::changes::set_accepted(s, o, p.number);
+    let o = usize::from(p.sender);
+    row.put_stored(o, p);
+    row.set_accepted(o, p.number);
 }
 
-pub fn opens(s: &mut [u32], out: &mut [u8], at: usize, room: u8) -> usize
-    requires { Row s.old × Bounded reach (state_of s.old) × Fits opens s.old out.old at }
-    ensures { Did room opens s.old out.old at s.new out.new result }
+pub fn opens(row: &mut RowMut, out: &mut Output)
+    requires { Bounded reach (held_mut row.old) × HasRoom opens row.old out.old }
+    ensures { Done opens row.old out.old row.new out.new }
 {
-    let start = larger(row::view_number(s), row::start(s) + 1);
-    let members = row::net(s);
-    row::changes::set_start(s, start);
-    at + write_notice(
-        out,
-        at,
-        Notice {
-            start: start,
-            members: members,
-        },
-        room,
-    )
+    let held = row.get();
+    let start = held.view_number().max(held.start() + 1);
+    let members = held.net();
+    row.set_start(start);
+    out.write(InRoom {
+        room: out.room,
+        record: Notice { start, members },
+    });
 }

@@ -1,95 +1,84 @@
-// Checks 6 to 10 and 19 of a proposal, which ask for an office and for no state. The used numbers are lent beside the
-// proposal: to look one of them up by its office would copy all sixteen.
+// Checks 6 to 10 and 19 of a proposal, which ask for an office and for no state.
 ghost use Rattle.std.specs.Prelude.{◌≡◌, ◌<◌};
 ghost use Rattle.laws.specs.Checks.{first_of};
+ghost use Rattle.records.specs.Refusals.{refusal_of};
 ghost use Rattle.rules.specs.Refusals.{wrong_sender, wrong_kind, wrong_number, without_seat, stray_used};
 ghost use Rattle.rules.specs.Refusals.{uses_itself, form_checks};
 
 use records::numbers::{LIMIT, above_limit, stray_number};
-use records::{FAST, Proposal, SLOW};
+use records::{FAST, Proposal, Refusal, SLOW};
 use seats::offices::serves;
 
 // Check 6.
-fn wrong_sender(office: u8, p: Proposal) -> bool
-    ensures { result ≡ wrong_sender office p }
+#[tactic(auto, unfolding(rules::specs::Refusals::wrong_sender))]
+fn wrong_sender(office: u8, p: &Proposal) -> bool
+    ensures { result ≡ wrong_sender office p.now }
 {
     (15 < p.sender) | (p.sender == office)
 }
 
 // Check 7.
-fn wrong_kind(p: Proposal) -> bool
-    ensures { result ≡ wrong_kind p }
+#[tactic(auto, unfolding(rules::specs::Refusals::wrong_kind))]
+fn wrong_kind(p: &Proposal) -> bool
+    ensures { result ≡ wrong_kind p.now }
 {
-    let kind = p.kind;
-    match kind {
-        FAST => false,
-        SLOW => false,
-        _ => true,
-    }
+    !matches!(p.kind, FAST | SLOW)
 }
 
 // Check 8.
-fn wrong_number(p: Proposal, used: &[u32; 16]) -> bool
-    requires { used.now ≡ p.used }
-    ensures { result ≡ wrong_number p }
+#[tactic(auto, unfolding(rules::specs::Refusals::wrong_number))]
+fn wrong_number(p: &Proposal) -> bool
+    ensures { result ≡ wrong_number p.now }
 {
-    (p.start == 0) | (LIMIT < p.start) | (p.number == 0) | (LIMIT < p.number) | above_limit(used)
+    (p.start == 0) | (LIMIT < p.start) | (p.number == 0) | (LIMIT < p.number) | above_limit(&p.used)
 }
 
 // Check 9.
-fn without_seat(office: u8, p: Proposal) -> bool
-    ensures { result ≡ without_seat office p }
+#[tactic(auto, unfolding(rules::specs::Refusals::without_seat))]
+fn without_seat(office: u8, p: &Proposal) -> bool
+    ensures { result ≡ without_seat office p.now }
 {
     !serves(p.members, p.sender) | !serves(p.members, office)
 }
 
 // Check 10.
-fn stray_used(p: Proposal, used: &[u32; 16]) -> bool
-    requires { used.now ≡ p.used }
-    ensures { result ≡ stray_used p }
+#[tactic(auto, unfolding(rules::specs::Refusals::stray_used))]
+fn stray_used(p: &Proposal) -> bool
+    ensures { result ≡ stray_used p.now }
 {
-    stray_number(p.members, used)
+    stray_number(p.members, &p.used)
 }
 
 // Check 19.
-fn uses_itself(p: Proposal, used: &[u32; 16]) -> bool
-    requires { (p.sender < 16) × (used.now ≡ p.used) }
-    ensures { result ≡ uses_itself p }
+#[tactic(auto, unfolding(rules::specs::Refusals::uses_itself))]
+fn uses_itself(p: &Proposal) -> bool
+    requires { p.now.sender < 16 }
+    ensures { result ≡ uses_itself p.now }
 {
-    p.number <= used[p.sender as usize]
+    p.number <= p.used[p.sender as usize]
 }
 
-// Checks 6 to 10 and 19: the first that applies, 0 where none does.
-fn form_refusal(office: u8, p: Proposal, used: &[u32; 16]) -> u8
-    requires { used.now ≡ p.used }
-    ensures { result ≡ first_of (form_checks office p) }
+// Checks 6 to 10 and 19: the first that applies.
+pub fn form_refusal(office: u8, p: &Proposal) -> Result<(), Refusal>
+    ensures { refusal_of result ≡ first_of (form_checks office p.now) }
 {
     if wrong_sender(office, p) {
-        return 6;
+        return Err(Refusal::Sender);
     }
     if wrong_kind(p) {
-        return 7;
+        return Err(Refusal::Kind);
     }
-    if wrong_number(p, used) {
-        return 8;
+    if wrong_number(p) {
+        return Err(Refusal::Number);
     }
     if without_seat(office, p) {
-        return 9;
+        return Err(Refusal::Members);
     }
-    if stray_used(p, used) {
-        return 10;
+    if stray_used(p) {
+        return Err(Refusal::Stray);
     }
-    if uses_itself(p, used) {
-        return 19;
+    if uses_itself(p) {
+        return Err(Refusal::SelfUse);
     }
-    0
-}
-
-// The same, on a copy of the used numbers. It is made here and not before the match on what an event is, where the
-// compiler would make it for every event.
-pub fn proposal_refusal(office: u8, p: Proposal) -> u8
-    ensures { result ≡ first_of (form_checks office p) }
-{
-    let used = p.used;
-    form_refusal(office, p, &used)
+    Ok(())
 }

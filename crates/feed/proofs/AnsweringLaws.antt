@@ -19,7 +19,7 @@ use Rattle.text.proofs.RoomLaws.{room_named}
 use Rattle.step.specs.Held.{HeldStep}
 use Rattle.feed.specs.Answered.{Answered}
 use Rattle.buffers.specs.declared.input.Place.{Place}
-use Rattle.step.specs.declared.answers.Answer.{Answer}
+use Rattle.step.specs.Answers.{Answer}
 use Rattle.buffers.specs.Progress.{Told}
 
 -- the bytes shown are those that the step wrote, or none

@@ -1,6 +1,6 @@
 -- For make_table in the root: the words after a table is made.
-use mathlib.Core.Path.{◌≡◌, sym, ap, ◌∙◌}
-use mathlib.Core.Bool.{Bool, true}
+use mathlib.Core.Path.{◌≡◌, refl, sym, ap, ◌∙◌, subst}
+use mathlib.Core.Bool.{Bool, true, false}
 use mathlib.Core.List.{List}
 use Prim.Native.Nat.{ℕ, ◌<◌}
 use native.Mathlib.Omega.{arith}
@@ -9,6 +9,9 @@ use lib.ListN.{length}
 use lib.Dec.{eqb}
 use borrow.Author.Tests.{eqb-true, ne_eqb}
 use Rattle.laws.specs.Upd.{ifb}
+use Rattle.records.specs.declared.refusal.Refusal.{Refusal}
+use Rattle.records.specs.Refusals.{number}
+use Rattle.std.specs.Prelude.{Err}
 use Rattle.rules.specs.State.{State}
 use Rattle.rules.specs.Refusals.{Made, made_of}
 use Rattle.rule_laws.proofs.Exits.{made_0}
@@ -16,7 +19,7 @@ use Rattle.rule_laws.proofs.Parts.{fresh_reads}
 use Rattle.row.specs.Table.{table_length, table_of, SoundTable}
 use Rattle.row.proofs.Tables.{sound_table_lem}
 use Rattle.step.specs.Fresh.{MadeWords, fresh_words}
-use Rattle.step.proofs.FreshTables.{fresh_refusal, fresh_holds, fresh_sound}
+use Rattle.step.proofs.FreshTables.{refused_some, fresh_refusal, fresh_holds, fresh_sound}
 use Rattle.text.specs.Lines.{lines_of, no_office}
 use Rattle.text.proofs.LineLaws.{text_made, made_known}
 use Rattle.text.proofs.RoomLaws.{Alike, lines_same}
@@ -60,3 +63,10 @@ made office {n} ws {ws'} l e = record {
         rw (lines_same traced office (made_known office z) (table_of ws') (λ room. (made_of office).state) 0 f holds
         (sound_table_lem ws' sound))
     text traced f (no d) = rw (ne_eqb (made_of office).refusal 0 d)
+
+-- where it is refused, none is made
+pub unmade : (office : ℕ) (ws : List ℕ) (r : Refusal) {ws' : List ℕ} → length ws ≡ table_length
+    → ◌≡◌ {A = MadeWords} (record { refusal = number r; words = ws' }) (fresh_words office ws)
+    → TableMade office false ws'
+unmade office ws r {ws'} l e =
+    subst (λ (t : Bool). TableMade office t ws') (ne_eqb (number r) 0 (refused_some (Err r) refl)) (made office ws l e)

@@ -23,8 +23,8 @@ use Rattle.feed.specs.Answered.{Answered}
 use Rattle.buffers.specs.Progress.{sent_from, Emptied}
 use Rattle.feed.specs.Turn.{Stand, stand_at, sent_at, Keeps, Advances, Turns}
 use Rattle.buffers.specs.declared.input.Place.{Place}
-use Rattle.buffers.specs.declared.input.Grown.{Grown}
-use Rattle.feed.specs.declared.answering.Advanced.{Advanced}
+use Rattle.buffers.specs.Place.{Grown}
+use Rattle.feed.specs.Session.{Advanced}
 use Rattle.records.proofs.RunLaws.{Front, nothing, other, short, whole, front}
 use Rattle.records.proofs.Growing.{whole_long}
 use Rattle.text.proofs.LineLaws.{front_behind, lines_nil, Decided, entire, last, marked, decided_text, came_whole}

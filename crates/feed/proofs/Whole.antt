@@ -22,7 +22,12 @@ use Rattle.feed.specs.Turn.{Stand, stand_at, Takes, Turns}
 use Rattle.feed.specs.Whole.{Run, begun, turned, Reached, Broken, written_by, Ran, Answers}
 use Rattle.buffers.specs.declared.input.Place.{Place}
 use Rattle.buffers.proofs.Window.{waits_none}
-use Rattle.feed.specs.declared.turning.Turned.{Turned}
+use Rattle.feed.specs.Session.{Turned, Same, more_of, failed_of}
+use Rattle.feed.specs.Steps.{TurnsTo, RanTo}
+use Rattle.feed.specs.TurnReady.{Lent}
+use Rattle.feed.specs.declared.session.Session.{Session}
+use Rattle.feed.specs.declared.session.Fault.{Fault}
+use Rattle.std.specs.Prelude.{Result, Ok}
 
 -- what is due at a place, where f is still to come
 abbrev due : Bool → ℕ → Bool → Stand → List ℕ → List ℕ
@@ -221,3 +226,30 @@ ran_turned {traced} {more} {failed} {unread} {office} {ws₀} {ws} {p} {i} {o} {
     cases : ((r.more ≡ true) × (r.failed ≡ false) × (left' ≡ left - 1))
         ⊎ (((r.more ≡ true) × (r.failed ≡ false) → ⊥) × (left' ≡ 0))
     cases = left_cases r.more r.failed left left' e
+
+-- what is lent to the turns is lent to the next
+pub lent_on : {s s' : Session} → Lent s.office s.table s.input s.out s.output → Same s s' → SoundTable s'.table
+    → OfOffice s.office s'.table → Lent s'.office s'.table s'.input s'.out s'.output
+lent_on {s} {s'} l k sound own = record {
+  known = rw k.office l.known;
+  sound = sound;
+  own = rw k.office own;
+  input = k.input ∙ l.input;
+  room = k.room ∙ l.room;
+  output = k.output ∙ l.output;
+}
+
+pub same_on : {s s' s'' : Session} → Same s s' → Same s' s'' → Same s s''
+same_on a b = record {
+  office = b.office ∙ a.office;
+  traced = b.traced ∙ a.traced;
+  input = b.input ∙ a.input;
+  room = b.room ∙ a.room;
+  output = b.output ∙ a.output;
+}
+
+-- one turn more of a session that goes on
+pub ran_on : {s₀ s : Session} {left left' : ℕ} (r : Result Bool Fault) (s' : Session) → RanTo s₀ (Ok true) left s
+    → Same s₀ s → 0 < left → TurnsTo s r s' → left' ≡ ifb (more_of r) (ifb (failed_of r) 0 (left - 1)) 0
+    → RanTo s₀ r left' s'
+ran_on r s' a k h t e = ran_turned a h (rw (k.traced, k.office) at t.1) e

@@ -9,7 +9,7 @@ use Rattle.text.specs.Lines.{line_for, goes_on}
 use Rattle.buffers.specs.Room.{buffer_length}
 use Rattle.buffers.specs.Place.{unwritten_of}
 use Rattle.buffers.specs.declared.input.Place.{Place}
-use Rattle.feed.specs.declared.answering.Advanced.{Advanced}
+use Rattle.feed.specs.Session.{Advanced}
 
 -- the record b is answered by the step, with full room: its line stands behind what is unwritten
 pub record Answered (traced : Bool) (office : ℕ) (ws : List ℕ) (p : Place) (b o : List ℕ) (r : Advanced)

@@ -11,8 +11,7 @@ use Rattle.text.specs.Lines.{front_of, lines_of}
 use Rattle.buffers.specs.Place.{Within, window_of, unwritten_of, waits_of}
 use Rattle.buffers.specs.declared.input.Place.{Place}
 use Rattle.buffers.specs.Room.{room_for}
-use Rattle.feed.specs.declared.answering.Advanced.{Advanced}
-use Rattle.feed.specs.declared.turning.Turned.{Turned}
+use Rattle.feed.specs.Session.{Advanced, Turned}
 
 -- where a run stands: the table, whether the input has ended, the records answered, the bytes unanswered and unwritten
 pub record Stand : Type 0 where

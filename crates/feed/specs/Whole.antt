@@ -10,6 +10,8 @@ use Rattle.text.specs.Lines.{text_of}
 use Rattle.buffers.specs.Place.{Within, waits_of}
 use Rattle.feed.specs.Turn.{Stand, stand_at, sent_at, Keeps}
 use Rattle.buffers.specs.declared.input.Place.{Place}
+use Rattle.feed.specs.TurnReady.{Lent}
+use Rattle.feed.specs.declared.session.Session.{Session}
 
 abbrev pub start : List ℕ → Stand
 start ws = record { words = ws; ended = false; number = 0; window = []; unwritten = [] }
@@ -48,6 +50,11 @@ pub record Broken (traced : Bool) (office : ℕ) (ws₀ : List ℕ) (unread : Bo
 abbrev pub written_by : {traced unread : Bool} {office : ℕ} {ws₀ : List ℕ} {b : Stand}
     → Broken traced office ws₀ unread b → List ℕ
 written_by k = k.output ++ take k.sent k.place.unwritten
+
+-- the turns can begin, with nothing read and nothing unwritten
+pub record Begins (s : Session) : Type 0 where
+  pub lent : Lent s.office s.table s.input s.out s.output
+  pub place : s.place ≡ record { ended = false; at = 0; end = 0; filled = 0; number = 0 }
 
 -- where the loop stands: after a run of turns, which a fault may have ended; it has turns left only while the program
 -- goes on

@@ -2,18 +2,20 @@
 #![tactic(auto)]
 
 ghost use Rattle.std.specs.Prelude.{◌≡◌, ◌-◌, ◌<◌, ◌≤◌, length};
-ghost use Rattle.laws.specs.Upd.{ifb};
 ghost use Rattle.row.specs.Table.{table_length};
 ghost use Rattle.text.specs.Lines.{no_office};
 ghost use Rattle.feed.specs.Made.{TableMade};
-ghost use Rattle.feed.specs.TurnReady.{Lent};
-ghost use Rattle.feed.specs.Whole.{Ran};
+ghost use Rattle.feed.specs.Steps.{RanTo};
+ghost use Rattle.feed.specs.Whole.{Begins};
 
 use buffers::input::{Place, read_some};
 use buffers::output::{BUFFER, due, flush};
+use session::{Fault, Session};
 use std::env::FillError;
 use std::rt::{Clock, Env};
-use turning::turn;
+
+// What the program holds from turn to turn.
+mod session;
 
 // A record answered: the table that the program holds, and the line behind what is unwritten.
 mod answering;
@@ -21,123 +23,38 @@ mod answering;
 // A turn: what is due is written, then more is read or a record answered.
 mod turning;
 
-// Where the turns end: `more` where they ran out.
-#[derive(Clone, Copy)]
-struct Ended {
-    more: bool,
-    failed: bool,
-    unread: bool,
-    place: Place,
-}
+// For whoever starts the program with an argument.
+const ABOUT: &[u8] =
+    b"No argument is read; standard input is one byte, the office, then reports and proposals end to end.\n";
 
-// A loop has to end, and nothing says that the input does: turns are counted down from a number that no run uses up.
-fn turns_left(more: bool, failed: bool, turns: u64) -> u64
-    requires { 0 < turns }
-    ensures { result ≡ ifb more (ifb failed 0 (turns - 1)) 0 }
-{
-    if more {
-        if failed { 0 } else { turns - 1 }
-    } else {
-        0
+impl Session {
+    // Turn after turn, until the input has ended, a record is refused by 4 or 5, or a read or a write fails; `true`
+    // where the turns ran out. A loop has to end, and nothing says that the input does: no run takes so many turns.
+    fn turns(&mut self, rt: &(impl Input + Print + Clock)) -> Result<bool, Fault>
+        requires { Begins self.old }
+        ensures { RanTo self.old result 0 self.new }
+    {
+        for _ in 0..u64::MAX {
+            match self.turn(rt) {
+                Ok(true) => {}
+                Ok(false) => return Ok(false),
+                Err(fault) => return Err(fault),
+            }
+        }
+        Ok(true)
     }
-}
 
-// Turn after turn, until the input has ended, a record is refused by 4 or 5, or a read or a write fails.
-fn turns(
-    rt: &(impl Input + Print + Clock),
-    office: u8,
-    table: &mut [u32],
-    input: &mut [u8],
-    out: &mut [u8],
-    output: &mut [u8],
-    traced: bool,
-) -> Ended
-    requires { Lent office table.old input.old out.old output.old }
-    ensures { Ran traced office table.old table.new result.place
-        input.new output.new result.more result.failed result.unread 0 }
-{
-    let mut place = Place {
-        ended: false,
-        at: 0,
-        end: 0,
-        filled: 0,
-        number: 0,
-    };
-    let mut more = true;
-    let mut failed = false;
-    let mut unread = false;
-    let mut left = u64::MAX;
-    while left > 0 {
-        let t = turn(rt, office, table, place, input, out, output, traced);
-        let next = t.place;
-        place = next;
-        more = t.more;
-        failed = t.failed;
-        unread = t.unread;
-        left = turns_left(more, failed, left);
+    // The turns, then what is still unwritten; where a read has failed, nothing is unwritten.
+    fn serve(&mut self, rt: &(impl Input + Print + Clock)) -> Result<(), Fault>
+        requires { Begins self.old }
+    {
+        self.turns(rt)?;
+        let filled = self.place.filled;
+        if flush(rt, rt, due(&self.output, filled)) < filled {
+            return Err(Fault::Unwritten);
+        }
+        Ok(())
     }
-    Ended {
-        more,
-        failed,
-        unread,
-        place,
-    }
-}
-
-// One plain sentence where the output cannot be written; the program then ends.
-fn tell_unwritten<C: Clock, E: Print>(clock: &C, errors: &E) {
-    flush(clock, errors, b"The output cannot be written.\n");
-}
-
-// One plain sentence where the input cannot be read; the program then ends.
-fn tell_unread<C: Clock, E: Print>(clock: &C, errors: &E) {
-    flush(clock, errors, b"The input cannot be read.\n");
-}
-
-// One sentence for whoever starts the program with an argument.
-fn tell_input<C: Clock, E: Print>(clock: &C, errors: &E) {
-    flush(
-        clock,
-        errors,
-        b"No argument is read; standard input is one byte, the office, then reports and proposals end to end.\n",
-    );
-}
-
-// What is still unwritten is written, unless a write has failed; where a read has failed, nothing is unwritten.
-fn finish<R: Print + Clock, E: Print>(
-    rt: &R,
-    errors: &E,
-    output: &[u8],
-    filled: usize,
-    failed: bool,
-    unread: bool,
-)
-    requires { filled ≤ length output.now }
-{
-    if unread {
-        tell_unread(rt, errors);
-        return;
-    }
-    if failed || flush(rt, rt, due(output, filled)) < filled {
-        tell_unwritten(rt, errors);
-    }
-}
-
-fn serve<R: Input + Print + Clock, E: Print>(
-    rt: &R,
-    errors: &E,
-    office: u8,
-    table: &mut [u32],
-    input: &mut [u8],
-    out: &mut [u8],
-    output: &mut [u8],
-    traced: bool,
-)
-    requires { Lent office table.old input.old out.old output.old }
-{
-    let e = turns(rt, office, table, input, out, output, traced);
-    let place = e.place;
-    finish(rt, errors, output, place.filled, e.failed, e.unread);
 }
 
 // The line where no office can be served.
@@ -147,66 +64,72 @@ fn no_office() -> [u8; 8]
     *b"0 1 0 0\n"
 }
 
-// The first byte, unless the input cannot be read; the office is 16, which is none, where the input has ended.
-#[derive(Clone, Copy)]
-struct First {
-    unread: bool,
-    office: u8,
-}
-
-fn first_byte(rt: &(impl Input + Clock)) -> First {
+// The first byte of the input; none where it has ended.
+fn first_byte(rt: &(impl Input + Clock)) -> Result<Option<u8>, Fault> {
     let mut byte = [0u8; 1];
-    let read = read_some(rt, &mut byte);
-    let office = if read.ended { 16 } else { byte[0] };
-    First {
-        unread: read.failed,
-        office,
+    match read_some(rt, &mut byte) {
+        Ok(0) => Ok(None),
+        Ok(_) => Ok(Some(byte[0])),
+        Err(_) => Err(Fault::Unread),
     }
 }
 
-// Whether the office can be served; the table then holds its fresh states.
+// Whether the office can be served; the table then holds its fresh states. A flag, since `TableMade` is of one.
 fn make_table(office: u8, table: &mut [u32]) -> bool
     requires { length table.old ≡ table_length }
     ensures { TableMade office result table.new }
 {
-    step::fresh(office, table) == 0
+    match step::fresh(office, table) {
+        Ok(()) => true,
+        Err(_) => false,
+    }
 }
 
-// The office served, or the one line where there is none.
-fn open<R: Input + Print + Clock, E: Print>(rt: &R, errors: &E, office: u8, traced: bool) {
+// The office served, unless it is none.
+fn open(rt: &(impl Input + Print + Clock), office: u8, traced: bool) -> Result<bool, Fault> {
     let mut table = [0u32; step::WORDS];
     if !make_table(office, &mut table) {
-        if flush(rt, rt, &no_office()) < 8 {
-            tell_unwritten(rt, errors);
-        }
-        return;
+        return Ok(false);
     }
-    let mut input = [0u8; BUFFER];
-    let mut output = [0u8; BUFFER];
-    let mut out = [0u8; step::ROOM];
-    serve(
-        rt,
-        errors,
+    let mut session = Session {
         office,
-        &mut table,
-        &mut input,
-        &mut out,
-        &mut output,
         traced,
-    );
+        table,
+        input: [0u8; BUFFER],
+        out: [0u8; step::ROOM],
+        output: [0u8; BUFFER],
+        place: Place {
+            ended: false,
+            at: 0,
+            end: 0,
+            filled: 0,
+            number: 0,
+        },
+    };
+    session.serve(rt)?;
+    Ok(true)
+}
+
+// The office of the input served, or the one line where there is none.
+fn answer_all(rt: &(impl Input + Print + Clock), traced: bool) -> Result<(), Fault> {
+    let served = match first_byte(rt)? {
+        Some(office) => open(rt, office, traced)?,
+        None => false,
+    };
+    if !served && flush(rt, rt, &no_office()) < 8 {
+        return Err(Fault::Unwritten);
+    }
+    Ok(())
 }
 
 // The program: what `rt` reads and prints are its records and lines, `errors` prints what went wrong; `traced` has the
 // bytes written behind each line. The first argument is its own name.
 pub fn run<R: Input + Print + Clock + Env, E: Print>(rt: &R, errors: &E, traced: bool) {
     if !matches!(rt.arg(1, &mut []), Err(FillError::NotPresent)) {
-        tell_input(rt, errors);
+        flush(rt, errors, ABOUT);
         return;
     }
-    let first = first_byte(rt);
-    if first.unread {
-        tell_unread(rt, errors);
-        return;
+    if let Err(fault) = answer_all(rt, traced) {
+        flush(rt, errors, fault.sentence());
     }
-    open(rt, errors, first.office, traced);
 }

@@ -42,10 +42,10 @@ abbrev pub calls_in : State → ℕ → Bool
 calls_in s o = calls_by (kind_of s.mode) s.own s.number s.net.bits o (stored_at s o).proposal
 
 -- by what the code read
-pub calls_read : (s : State) (kind own number : ℕ) (net : SeatSet) (o : ℕ) (b : Bool) → kind ≡ kind_of s.mode
+pub calls_read : (s : State) (mode : Mode) (own number : ℕ) (net : SeatSet) (o : ℕ) (b : Bool) → mode ≡ s.mode
     → own ≡ s.own → number ≡ s.number → net ≡ s.net
-    → b ≡ calls_by kind own number net.bits o (stored_at s o).proposal → calls_in s o ≡ b
-calls_read s kind own number net o b w x y z e = sym (e ∙ rw (w, x, y, z))
+    → b ≡ calls_by (kind_of mode) own number net.bits o (stored_at s o).proposal → calls_in s o ≡ b
+calls_read s mode own number net o b w x y z e = sym (e ∙ rw (w, x, y, z))
 
 -- some below n pass one of two tests
 either : (n : ℕ) (p q r : ℕ → Bool) → ((k : ℕ) → k < n → r k ≡ p k || q k) → anyb n r ≡ anyb n p || anyb n q

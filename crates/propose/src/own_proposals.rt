@@ -5,50 +5,47 @@ ghost use Rattle.laws.specs.Upd.{ifb};
 ghost use Rattle.seats.specs.Offices.{serves};
 ghost use Rattle.rules.specs.State.{used_at};
 ghost use Rattle.rules.specs.Rules.{own_proposal, proposed};
-ghost use Rattle.row.specs.Row.{Row, state_of, mode_of};
-ghost use Rattle.row.specs.Changes.{Changed};
+ghost use Rattle.row.specs.Held.{held, held_mut};
+ghost use Rattle.row.specs.Modes.{meaning};
+ghost use Rattle.row.specs.Moved.{Moved};
 
 use event_parts::counted;
 use records::Proposal;
+use row::{Mode, Row, RowMut};
 use seats::SeatSet;
 use seats::offices::serves;
 
 // The used numbers of the offices of a set, 0 for the others.
-fn used_within(s: &[u32], net: SeatSet) -> [u32; 16]
-    requires { Row s.now }
-    ensures { result ≡ tab 16 (λ o. ifb (serves net.bits o) (used_at (state_of s.now) o) 0) }
+fn used_within(row: Row, net: SeatSet) -> [u32; 16]
+    ensures { result ≡ tab 16 (λ o. ifb (serves net.bits o) (used_at (held row.entry) o) 0) }
 {
-    let mut used = [0u32; 16];
-    let mut o: usize = 0;
-    while o < 16 {
-        used[o] = counted(serves(net, o as u8), row::used(s, o));
-        o += 1;
+    let mut used = [0; 16];
+    for o in 0..16 {
+        used[o] = counted(serves(net, o as u8), row.used(o));
     }
     used
 }
 
-pub fn own_proposal(s: &[u32], kind: u8, n: u32) -> Proposal
-    requires { Row s.now × ((state_of s.now).own < 16) × (kind ≤ 2) }
-    ensures { result ≡ own_proposal (mode_of kind) n (state_of s.now) }
+pub fn own_proposal(row: Row, mode: Mode, n: u32) -> Proposal
+    ensures { result ≡ own_proposal (meaning mode) n (held row.entry) }
 {
-    let net = row::net(s);
+    let net = row.net();
     Proposal {
-        sender: row::own(s),
-        kind: kind,
+        sender: row.own(),
+        kind: u8::from(mode),
         members: net,
-        start: row::start(s),
+        start: row.start(),
         number: n,
-        used: used_within(s, net),
+        used: used_within(row, net),
     }
 }
 
 // The proposal made is stored as the own one.
-pub fn keep_own(s: &mut [u32], kind: u8, p: Proposal)
-    requires row { Row s.old × ((state_of s.old).own < 16) × (kind ≤ 2) }
-    requires p_value { p ≡ own_proposal (mode_of kind) p.number (state_of s.old) }
-    ensures { Changed (proposed (mode_of kind) p.number) s.old s.new }
+pub fn keep_own(row: &mut RowMut, mode: Mode, p: Proposal)
+    requires { p ≡ own_proposal (meaning mode) p.number (held_mut row.old) }
+    ensures { Moved (proposed (meaning mode) p.number) row.old row.new }
 {
-    row::slots::put_stored(s, p.sender as usize, p);
-    row::changes::set_number(s, p.number);
-    row::changes::set_mode(s, kind);
+    row.put_stored(usize::from(p.sender), p);
+    row.set_number(p.number);
+    row.set_mode(mode);
 }

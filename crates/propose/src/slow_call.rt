@@ -1,47 +1,48 @@
 // Whether slow agreement is called for: a look at what is stored that stops at the first proposal which calls for it.
 ghost use Rattle.std.specs.Prelude.{false, ◌≡◌, ◌<◌};
-ghost use Rattle.rules.specs.State.{stored_at};
+ghost use Rattle.rules.specs.State.{kind_of, stored_at};
 ghost use Rattle.rules.specs.Rules.{is_none, slow_called};
-ghost use Rattle.row.specs.Row.{Row, state_of};
+ghost use Rattle.row.specs.Held.{held};
+ghost use Rattle.row.specs.Modes.{meaning};
 ghost use Rattle.propose.specs.Look.{calls_by};
 
-use records::{FAST, SLOW};
+use records::SLOW;
+use row::{Mode, Row};
 use seats::SeatSet;
-use seats::offices::lowest;
+use seats::offices::first;
 
 // What is stored for office o calls for it.
-fn calls(s: &[u32], o: usize, own: usize, kind: u8, number: u32, net: SeatSet) -> bool
-    requires { Row s.now × (o < 16) × (own < 16) }
-    ensures { result ≡ calls_by kind own number net.bits o (stored_at (state_of s.now) o).proposal }
+fn calls(row: Row, o: usize, own: usize, mode: Mode, number: u32, net: SeatSet) -> bool
+    requires { (o < 16) × (own < 16) }
+    ensures { result
+        ≡ calls_by (kind_of (meaning mode)) own number net.bits o (stored_at (held row.entry) o).proposal }
 {
     if o == own {
         return false;
     }
-    let members = row::stored_members(s, o);
-    if !members.equals(net) {
+    if row.stored_members(o) != net {
         return false;
     }
-    (row::stored_used(s, o, own) == number)
-        | ((row::stored_kind(s, o) == SLOW as u32)
-            & ((kind == FAST) | (number < row::stored_number(s, o))))
+    (row.stored_used(o, own) == number)
+        | ((row.stored_kind(o) == u32::from(SLOW))
+            & ((mode == Mode::Fast) | (number < row.stored_number(o))))
 }
 
 // In mode fast or slow.
-pub fn slow_called(s: &[u32]) -> bool
-    requires { Row s.now × ((state_of s.now).own < 16) × (is_none (state_of s.now).mode ≡ false) }
-    ensures { result ≡ slow_called (state_of s.now) }
+pub fn slow_called(row: Row) -> bool
+    requires { is_none (held row).mode ≡ false }
+    ensures { result ≡ slow_called (held row.entry) }
 {
-    let kind = row::mode(s);
-    let net = row::net(s);
-    let own = row::own(s) as usize;
-    let number = row::number(s);
-    let mut left = row::present(s);
-    while left != 0 {
-        let o = lowest(left);
-        if calls(s, o as usize, own, kind, number, net) {
+    let mode = row.mode();
+    let net = row.net();
+    let own = usize::from(row.own());
+    let number = row.number();
+    let mut left = row.present();
+    while let Some(o) = first(left) {
+        if calls(row, usize::from(o), own, mode, number, net) {
             return true;
         }
-        left = left & !(1u16 << o);
+        left &= left - 1;
     }
     false
 }

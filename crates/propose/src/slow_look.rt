@@ -1,11 +1,12 @@
 // The number of a slow proposal: a look at the stored proposals.
 ghost use Rattle.std.specs.Prelude.{◌≡◌, ◌+◌, ◌<◌, ◌^◌, max};
 ghost use Rattle.rules.specs.State.{stored_at};
-ghost use Rattle.row.specs.Row.{Row, state_of};
+ghost use Rattle.row.specs.Held.{held};
 ghost use Rattle.propose.specs.Look.{looked_of, look_of, number_by};
 
-use event_parts::{counted, larger};
+use event_parts::counted;
 use records::SLOW;
+use row::Row;
 use seats::SeatSet;
 use seats::offices::serves;
 
@@ -19,42 +20,38 @@ pub struct Look {
 }
 
 // A look at what is stored for office o, after a look at the offices before it.
-fn looked(a: Look, s: &[u32], o: usize, own: usize, number: u32, net: SeatSet) -> Look
-    requires { Row s.now × (o < 16) }
-    ensures { result ≡ looked_of own number net.bits o (stored_at (state_of s.now) o) a }
+fn looked(a: Look, row: Row, o: usize, own: usize, number: u32, net: SeatSet) -> Look
+    requires { o < 16 }
+    ensures { result ≡ looked_of own number net.bits o (stored_at (held row.entry) o) a }
 {
-    if !row::stored_present(s, o) {
+    if !row.stored_present(o) {
         return a;
     }
-    let n = row::stored_number(s, o);
-    let members = row::stored_members(s, o);
+    let n = row.stored_number(o);
     let above = (o != own)
-        & members.equals(net)
-        & (row::stored_kind(s, o) == SLOW as u32)
+        & (row.stored_members(o) == net)
+        & (row.stored_kind(o) == u32::from(SLOW))
         & (number < n);
     Look {
         above: above | a.above,
-        joined: larger(counted(above, n), a.joined),
-        top: larger(counted(serves(net, o as u8), n), a.top),
+        joined: counted(above, n).max(a.joined),
+        top: counted(serves(net, o as u8), n).max(a.top),
     }
 }
 
-pub fn look_at_all(s: &[u32]) -> Look
-    requires { Row s.now × ((state_of s.now).own < 16) }
-    ensures { result ≡ look_of 16 (state_of s.now) }
+pub fn look_at_all(row: Row) -> Look
+    ensures { result ≡ look_of 16 (held row.entry) }
 {
-    let net = row::net(s);
-    let own = row::own(s) as usize;
-    let number = row::number(s);
+    let net = row.net();
+    let own = usize::from(row.own());
+    let number = row.number();
     let mut a = Look {
         above: false,
         joined: 0,
         top: 0,
     };
-    let mut o: usize = 0;
-    while o < 16 {
-        a = looked(a, s, o, own, number, net);
-        o += 1;
+    for o in 0..16 {
+        a = looked(a, row, o, own, number, net);
     }
     a
 }
@@ -66,6 +63,6 @@ pub fn slow_number(number: u32, a: Look) -> u32
     if a.above {
         a.joined
     } else {
-        1 + larger(number, a.top)
+        1 + number.max(a.top)
     }
 }

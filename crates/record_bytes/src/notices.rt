@@ -1,62 +1,66 @@
-// Start notices: the reader of a lone one, total, with the two checks on its own mark and length; and the writer.
-ghost use Rattle.std.specs.Prelude.{◌≡◌};
-ghost use Rattle.records.specs.Layout.{notice_length, encode_notice, decode_notice, sized};
-ghost use Rattle.records.specs.Write.{Placed};
-ghost use Rattle.record_bytes.specs.notices.Read.{read_notice};
+// Start notices: what an office tells its seats when a change begins.
+ghost use Rattle.std.proofs.Common.{rules};
+ghost use Rattle.records.specs.Layout.{notice_mark, notice_length, encode_notice, decode_notice};
+ghost use Rattle.record_bytes.specs.InRoom.{decoded, encoded};
 
-use crate::bytes::{get32, get64, put_mark, put8, put32, put64, space};
-use crate::own_checks::{accepted, check_own};
-use records::{Notice, layout, room_of};
+use crate::bytes::{get32, get64, put};
+use crate::record::Record;
+use records::{InRoom, Notice, layout};
 use seats::SeatSet;
 
-// What the reader answers: the number by checks 4 and 5, the room and the record, zeros where it is refused.
-#[derive(Clone, Copy)]
-pub struct NoticeRead {
-    pub refusal: u8,
-    pub room: u8,
-    pub notice: Notice,
-}
+impl Record for InRoom<Notice> {
+    ghost MARK = { notice_mark };
 
-// What the fields say; zeros where the length is another.
-fn decode_notice(bytes: &[u8]) -> Notice
-    ensures { result ≡ decode_notice (sized notice_length bytes.now) }
-{
-    if bytes.len() != layout::NOTICE_LENGTH {
-        return Notice {
-            start: 0,
-            members: SeatSet::EMPTY,
-        };
-    }
-    Notice {
-        start: get32(bytes, layout::NOTICE_START),
-        members: SeatSet {
-            bits: get64(bytes, layout::NOTICE_MEMBERS),
-        },
-    }
-}
+    ghost LENGTH = { notice_length };
 
-pub fn read_notice(bytes: &[u8]) -> NoticeRead
-    ensures { result ≡ read_notice bytes.now }
-{
-    let refusal = check_own(&layout::NOTICE_MARK, layout::NOTICE_LENGTH, bytes);
-    let own = accepted(refusal, bytes);
-    NoticeRead {
-        refusal,
-        room: room_of(own),
-        notice: decode_notice(own),
-    }
-}
+    ghost decoded = { decoded decode_notice };
 
-// The record at a place of the output, or nothing where it has no room there. The count of bytes written comes back.
-pub fn write_notice(out: &mut [u8], at: usize, n: Notice, room: u8) -> usize
-    ensures { Placed out.old at (encode_notice room n) result out.new }
-{
-    if space(out.len(), at) < layout::NOTICE_LENGTH {
-        return 0;
+    ghost encoded = { encoded encode_notice };
+
+    const MARK: [u8; 2] = layout::NOTICE_MARK;
+
+    const LENGTH: usize = layout::NOTICE_LENGTH;
+
+    #[tactic(auto, unfolding(records::specs::Layout::decode_notice, records::specs::Layout::room_of))]
+    fn decode(bytes: &[u8]) -> Self {
+        if bytes.len() != Self::LENGTH {
+            return InRoom {
+                room: 0,
+                record: Notice {
+                    start: 0,
+                    members: SeatSet::EMPTY,
+                },
+            };
+        }
+        InRoom {
+            room: bytes[layout::ROOM],
+            record: Notice {
+                start: get32(bytes, layout::NOTICE_START),
+                members: SeatSet {
+                    bits: get64(bytes, layout::NOTICE_MEMBERS),
+                },
+            },
+        }
     }
-    put_mark(out, at, &layout::NOTICE_MARK);
-    put8(out, at, layout::ROOM, room);
-    put32(out, at, layout::NOTICE_START, n.start);
-    put64(out, at, layout::NOTICE_MEMBERS, n.members.bits);
-    layout::NOTICE_LENGTH
+
+    #[tactic(auto, unfolding(records::specs::Layout::encode_notice))]
+    fn size(self) -> usize {
+        Self::LENGTH
+    }
+
+    fn put(self, out: &mut [u8], at: usize) {
+        let n = self.record;
+        put(out, at, &Self::MARK);
+        put(out, at + layout::ROOM, &[self.room]);
+        put(out, at + layout::NOTICE_START, &n.start.to_be_bytes());
+        put(
+            out,
+            at + layout::NOTICE_MEMBERS,
+            &n.members.bits.to_be_bytes(),
+        );
+    }
+
+    ghost marked = { Prim.search rules };
+
+    ghost some = { Prim.search rules };
 }

@@ -1,23 +1,17 @@
-// The two checks on a record's own mark and length, and the bytes that pass them; inner to this crate.
-ghost use Rattle.std.specs.Prelude.{◌≡◌, ◌<◌};
-ghost use Rattle.records.specs.Layout.{check_own, accepted};
+// The two checks on a record's own mark and length; inner to this crate.
+ghost use Rattle.std.specs.Prelude.{◌≡◌};
+ghost use Rattle.records.specs.Refusals.{refusal_of};
+ghost use Rattle.records.specs.Layout.{check_own};
 
-use records::{get16, mark_of};
+use crate::record::Record;
+use records::{Refusal, check_length, mark_value};
 
 // Checks 4 and 5 on a record's own mark and its own length.
-pub fn check_own(mark: &[u8; 2], n: usize, bytes: &[u8]) -> u8
-    requires { 0 < n }
-    ensures { result ≡ check_own mark.now n bytes.now }
+pub fn check_own<R: Record>(bytes: &[u8]) -> Result<(), Refusal>
+    ensures { refusal_of result ≡ check_own R.MARK R.LENGTH bytes.now }
 {
-    if mark_of(bytes) != get16(mark[0], mark[1]) {
-        return 4;
+    if mark_value(bytes) != Some(u16::from_be_bytes(R::MARK)) {
+        return Err(Refusal::Mark);
     }
-    if bytes.len() == n { 0 } else { 5 }
-}
-
-// The bytes of an accepted record; none of a refused one.
-pub fn accepted<'a>(refusal: u8, bytes: &'a [u8]) -> &'a [u8]
-    ensures { result.now ≡ accepted refusal bytes.now }
-{
-    if refusal == 0 { bytes } else { &bytes[..0] }
+    check_length(R::LENGTH, bytes)
 }

@@ -1,4 +1,5 @@
 -- For checks: laws of checks 4 and 5.
+use Rattle.std.specs.Prelude.{Some}
 use mathlib.Core.Path.{◌≡◌, refl, sym, ap, ◌∙◌}
 use mathlib.Core.Bool.{Bool, true, false}
 use mathlib.Core.List.{List, [], ◌∷◌}
@@ -13,10 +14,12 @@ use Rattle.laws.specs.Big.{Below}
 use Rattle.laws.proofs.Fin.{if_same}
 use Rattle.records.specs.Layout.{value_of, mark_of, form_for, form_of, check_for, check_of, check_own, accepted, sized}
 use Rattle.records.specs.Layout.{report_mark, proposal_mark, report_length, proposal_length}
-use Rattle.records.specs.Layout.{report_form, proposal_form, other_form}
-use Rattle.records.specs.declared.Form.{Form}
-use Rattle.records.specs.declared.RecordKind.{RecordKind}
-use Rattle.records.specs.declared.RecordKind.TheVariants as kinds
+use Rattle.records.specs.Layout.{report_form, proposal_form, other_form, form_as}
+use Rattle.records.specs.declared.RecordKind.{RecordKind as InCode}
+use Rattle.records.specs.declared.RecordKind.TheVariants as in_code
+use Rattle.records.specs.Kinds.{Form}
+use Rattle.records.specs.Kinds.{RecordKind}
+use Rattle.records.specs.Kinds as kinds
 
 -- what passes has the length that its mark calls for
 check_length : (n : ℕ) (b : List ℕ) → check_for n b ≡ 0 → length b ≡ n
@@ -193,3 +196,23 @@ sized_accepted m n b r e = go (eqb r 0) refl
     go : (t : Bool) → eqb r 0 ≡ t → sized n (ifb t b []) ≡ ifb t b []
     go true z = sized_all n b (own_length m n b (sym e ∙ eqb-true r 0 z))
     go false z = if_same (eqb 0 n) []
+
+-- the two checks by what code answers of the mark
+some_long : (k : InCode) → (form_as (Some k)).length ≡ 0 → ⊥
+some_long in_code.Report e = omega arith
+some_long in_code.Proposal e = omega arith
+
+module _ (b : List ℕ) (k : InCode) (is : form_as (Some k) ≡ form_of b) (n : ℕ) (long : n ≡ (form_as (Some k)).length) where
+  pub length_is : n ≡ (form_of b).length
+  length_is = long ∙ ap (λ (f : Form). f.length) is
+
+  pub length_some : n ≡ 0 → ⊥
+  length_some z = some_long k (sym long ∙ z)
+
+  pub checked_by_kind : ifb (eqb (length b) n) 0 5 ≡ check_of b
+  unfolding check_of check_for
+  checked_by_kind = rw (sym length_is, ne_eqb n 0 length_some) refl
+
+pub no_kind : (b : List ℕ) → other_form ≡ form_of b → ◌≡◌ {A = ℕ} 4 (check_of b)
+unfolding check_of check_for
+no_kind b is = rw (sym is) refl

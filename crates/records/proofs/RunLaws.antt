@@ -12,11 +12,12 @@ use lib.Dec.{eqb, ltb, leb}
 use borrow.Author.Tests.{eqb-true, eqb-false, ltb-true, ltb-false, ne_eqb, lt-ltb, le-leb, lt-leb}
 use Rattle.laws.proofs.Fin.{if_same}
 use Rattle.laws.specs.Lists.{none, more}
-use Rattle.records.proofs.CheckLaws.{long_mark, check_passes, report_long, proposal_long, other_long}
+use Rattle.records.proofs.CheckLaws.{long_mark, check_passes, length_is, length_some}
 use Rattle.records.proofs.CheckLaws.{Marked, report_mark_lem, proposal_mark_lem, other_mark_lem, marked}
-use Rattle.records.specs.Layout.{mark_of, form_for, form_of, check_for, check_of}
-use Rattle.records.specs.declared.Form.{Form}
-use Rattle.records.specs.declared.RecordKind.TheVariants as kinds
+use Rattle.std.specs.Prelude.{Some}
+use Rattle.records.specs.declared.RecordKind.{RecordKind as InCode}
+use Rattle.records.specs.Layout.{form_as, other_form, mark_of, form_for, form_of, check_for, check_of}
+use Rattle.records.specs.Kinds.{Form}
 use Rattle.records.specs.Run.{too_few, run_check, fitting, run_size, run_first, run_rest}
 use Rattle.records.specs.Run.{reading_in, reading_of, Ends, WholeReading}
 
@@ -42,21 +43,18 @@ front w = go (eqb (length w) 0) (eqb n 0) (ltb (length w) n) refl refl refl
     go false false false d e f =
         whole (pos_of_ne-zero (eqb-false n 0 e)) (ltb-false (length w) n f) (rw (d, e, f)) (rw (d, e, f))
 
--- the number with which a run that has bytes ends here, by the kind of the record in front
-module _ (b : List ℕ) (f : Form) (some : length b ≡ 0 → ⊥) (is : f ≡ form_of b) where
-  by_length : ((form_of b).length ≡ 0 → ⊥) → too_few f.length b ≡ run_check b
+-- the number with which a run that has bytes ends here, by what code answers of the mark
+module _ (b : List ℕ) (some : length b ≡ 0 → ⊥) where
+  pub ends_kind : (k : InCode) → form_as (Some k) ≡ form_of b → (n : ℕ) → n ≡ (form_as (Some k)).length
+      → too_few n b ≡ run_check b
   unfolding run_check
-  by_length n = rw (is, ne_eqb _ _ some, ne_eqb _ _ n)
+  ends_kind k is n long =
+      let e = length_is b k is n long in
+      rw (ne_eqb _ _ some, sym e, ne_eqb n 0 (length_some b k is n long)) refl
 
-  pub ends_report : f.kind ≡ kinds.Report → too_few f.length b ≡ run_check b
-  ends_report k = by_length (report_long b (ap (λ (g : Form). g.kind) (sym is) ∙ k))
-
-  pub ends_proposal : f.kind ≡ kinds.Proposal → too_few f.length b ≡ run_check b
-  ends_proposal k = by_length (proposal_long b (ap (λ (g : Form). g.kind) (sym is) ∙ k))
-
-  pub ends_other : f.kind ≡ kinds.Other → 4 ≡ run_check b
+  pub ends_other : other_form ≡ form_of b → ◌≡◌ {A = ℕ} 4 (run_check b)
   unfolding run_check
-  ends_other k = let z = other_long b (ap (λ (g : Form). g.kind) (sym is) ∙ k) in rw (ne_eqb _ _ some, z)
+  ends_other is = rw (ne_eqb _ _ some, sym is) refl
 
 -- under two bytes are no mark
 pub form_none : (w : List ℕ) → length w < 2 → (form_of w).length ≡ 0
@@ -100,6 +98,11 @@ size_fitting b = go (front b)
     go (other l n e) = none_fits n (refused_size b (omega arith))
     go (short l n e) = rw (lt-leb (form_of b).length (length b) n) (sym (refused_size b (omega arith)))
     go (whole p l e s) = rw (le-leb (form_of b).length (length b) l) (sym s)
+
+-- nothing stands in front where the mark is no record's
+pub form_size : (b : List ℕ) → other_form ≡ form_of b → (0 ≡ run_size b) × (0 ≤ length b)
+form_size b is =
+    (sym (if_same (leb 0 (length b)) 0) ∙ ap (λ (n : ℕ). fitting n b) (ap (λ (f : Form). f.length) is) ∙ size_fitting b, omega arith)
 
 -- the record in front and what follows it are the input
 pub first_rest : (b : List ℕ) → run_first b ++ run_rest b ≡ b

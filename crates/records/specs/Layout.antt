@@ -1,6 +1,6 @@
 -- The layout of the six records, and checks 4 and 5. Numbers are stored most significant byte first; a record starts
 -- with its two-byte mark.
-use Rattle.std.specs.Prelude.{List, [], ◌∷◌, ◌++◌, ℕ, ◌+◌, ◌*◌, length, get_or, eqb, ltb}
+use Rattle.std.specs.Prelude.{Option, None, Some, List, [], ◌∷◌, ◌++◌, ℕ, ◌+◌, ◌*◌, length, get_or, eqb, ltb}
 use Rattle.laws.specs.Big.{bytes4, bytes8, bytes_all, big4, big8}
 use Rattle.laws.specs.Tab.{tab}
 use Rattle.laws.specs.Upd.{ifb}
@@ -11,8 +11,10 @@ use Rattle.records.specs.declared.Notice.{Notice}
 use Rattle.records.specs.declared.View.{View}
 use Rattle.records.specs.declared.Sync.{Sync}
 use Rattle.records.specs.declared.High.{High}
-use Rattle.records.specs.declared.Form.{Form}
-use Rattle.records.specs.declared.RecordKind.TheVariants as kinds
+use Rattle.records.specs.declared.RecordKind.{RecordKind as InCode}
+use Rattle.records.specs.declared.RecordKind.TheVariants as in_code
+use Rattle.records.specs.Kinds.{Form}
+use Rattle.records.specs.Kinds as kinds
 
 -- the marks "NE", "PR", "SC", "VW", "SY", "HM"
 abbrev pub report_mark : List ℕ
@@ -194,6 +196,12 @@ proposal_form = record { kind = kinds.Proposal; length = proposal_length }
 
 abbrev pub other_form : Form
 other_form = record { kind = kinds.Other; length = 0 }
+
+-- what code answers of it: the kind, none where the mark is neither's
+abbrev pub form_as : Option InCode → Form
+form_as None = other_form
+form_as (Some in_code.Report) = report_form
+form_as (Some in_code.Proposal) = proposal_form
 
 unfoldable pub form_for : ℕ → Form
 form_for m = ifb (eqb m (value_of report_mark)) report_form (ifb (eqb m (value_of proposal_mark)) proposal_form other_form)

@@ -1,3 +1,5 @@
+pub mod Refusals
+pub mod Kinds
 pub mod Layout
 pub mod Fits
 pub mod Write

@@ -1,32 +1,20 @@
-// Checks 4 and 5, by the mark's value.
-ghost use Rattle.std.specs.Prelude.{◌≡◌, ◌+◌, ◌*◌, ◌<◌};
+// Checks 4 and 5, by the mark.
+ghost use Rattle.std.specs.Prelude.{◌≡◌, unwrap_or, length, eqb};
 ghost use Rattle.laws.specs.Upd.{ifb};
-ghost use Rattle.records.specs.Layout.{mark_of, room_of, form_for, form_of, check_for, check_of};
+ghost use Rattle.records.specs.Refusals.{refusal_of};
+ghost use Rattle.records.specs.Layout.{mark_of, room_of, form_as, form_for, form_of, check_of};
 
-use crate::{Form, RecordKind, layout};
+use crate::{RecordKind, Refusal, layout};
 
-fn wide16(x: u8) -> u16
-    ensures { (result ≡ x) × (result < 256) }
-{
-    x as u16
-}
-
-// Two bytes as one number: a mark's value.
-pub fn get16(a: u8, b: u8) -> u16
-    ensures { result ≡ a * 256 + b }
-{
-    wide16(a) * 256 + wide16(b)
-}
-
-// The value of the mark that bytes start with; 0, which is no record's, where there are under two.
+// The value of the mark that bytes start with: two bytes as one number.
 #[tactic(auto, unfolding(crate::specs::Layout::mark_of))]
-pub fn mark_of(bytes: &[u8]) -> u16
-    ensures { result ≡ mark_of bytes.now }
+pub fn mark_value(bytes: &[u8]) -> Option<u16>
+    ensures { unwrap_or result 0 ≡ mark_of bytes.now }
 {
     if bytes.len() < 2 {
-        return 0;
+        return None;
     }
-    get16(bytes[0], bytes[1])
+    Some(u16::from_be_bytes([bytes[0], bytes[1]]))
 }
 
 // The room that bytes name, any byte; 0 where there is none.
@@ -34,61 +22,56 @@ pub fn mark_of(bytes: &[u8]) -> u16
 pub fn room_of(bytes: &[u8]) -> u8
     ensures { result ≡ room_of bytes.now }
 {
-    if bytes.len() <= layout::ROOM {
-        return 0;
-    }
-    bytes[layout::ROOM]
+    bytes.get(layout::ROOM).copied().unwrap_or(0)
 }
 
-// The kind and length that a mark's value calls for; any other mark is no record's.
-fn form_for(value: u16) -> Form
-    ensures { result ≡ form_for value }
+impl RecordKind {
+    // The length of its records.
+    pub fn length(self) -> usize
+        ensures { result ≡ (form_as (Some self)).length }
+    {
+        match self {
+            RecordKind::Report => layout::REPORT_LENGTH,
+            RecordKind::Proposal => layout::PROPOSAL_LENGTH,
+        }
+    }
+}
+
+// The kind that a mark's value calls for; any other mark is no record's.
+fn kind_for(value: u16) -> Option<RecordKind>
+    ensures { form_as result ≡ form_for value }
 {
     match value {
-        layout::REPORT => Form {
-            kind: RecordKind::Report,
-            length: layout::REPORT_LENGTH,
-        },
-        layout::PROPOSAL => Form {
-            kind: RecordKind::Proposal,
-            length: layout::PROPOSAL_LENGTH,
-        },
-        _ => Form {
-            kind: RecordKind::Other,
-            length: 0,
-        },
+        layout::REPORT => Some(RecordKind::Report),
+        layout::PROPOSAL => Some(RecordKind::Proposal),
+        _ => None,
     }
 }
 
-// The kind of record that bytes start with, by their mark, and the length of that kind; length 0 where it is neither a
-// report nor a proposal.
-pub fn form_of(bytes: &[u8]) -> Form
-    ensures { result ≡ form_of bytes.now }
+// The kind of record that bytes start with, by their mark: a report or a proposal.
+pub fn kind_of(bytes: &[u8]) -> Option<RecordKind>
+    ensures { form_as result ≡ form_of bytes.now }
 {
-    form_for(mark_of(bytes))
+    kind_for(mark_value(bytes)?)
 }
 
-// Checks 4 and 5 where the mark calls for `n` bytes, 0 where it is refused.
-pub fn check_for(n: usize, bytes: &[u8]) -> u8
-    ensures { result ≡ check_for n bytes.now }
+// Check 5: `n` bytes.
+pub fn check_length(n: usize, bytes: &[u8]) -> Result<(), Refusal>
+    ensures { refusal_of result ≡ ifb (eqb (length bytes.now) n) 0 5 }
 {
-    if n == 0 {
-        return 4;
+    if bytes.len() == n {
+        Ok(())
+    } else {
+        Err(Refusal::Length)
     }
-    if bytes.len() == n { 0 } else { 5 }
 }
 
-// The number by checks 4 and 5 for a lone report or proposal: 0 where it passes both.
-pub fn check(bytes: &[u8]) -> u8
-    ensures { result ≡ check_of bytes.now }
+// Checks 4 and 5 for a lone report or proposal.
+pub fn check(bytes: &[u8]) -> Result<(), Refusal>
+    ensures { refusal_of result ≡ check_of bytes.now }
 {
-    let f = form_of(bytes);
-    check_for(f.length, bytes)
-}
-
-// In a list of checks: a reason where it applies, else what the rest of the list gives.
-pub fn reason(applies: bool, number: u8, rest: u8) -> u8
-    ensures { result ≡ ifb applies number rest }
-{
-    if applies { number } else { rest }
+    let Some(kind) = kind_of(bytes) else {
+        return Err(Refusal::Mark);
+    };
+    check_length(kind.length(), bytes)
 }

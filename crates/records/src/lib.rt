@@ -4,6 +4,9 @@
 
 use seats::SeatSet;
 
+// Why something is refused.
+pub mod refusal;
+
 // Each mark, length and place.
 pub mod layout;
 
@@ -16,12 +19,20 @@ pub mod numbers;
 // The reading of a run of records.
 pub mod run;
 
-pub use checks::{check, check_for, form_of, get16, mark_of, reason, room_of};
+pub use checks::{check, check_length, kind_of, mark_value, room_of};
+pub use refusal::Refusal;
 
 // The two kinds of a proposal.
 pub const FAST: u8 = 1;
 
 pub const SLOW: u8 = 2;
+
+// A record of a room, with the room.
+#[derive(Clone, Copy)]
+pub struct InRoom<R> {
+    pub room: u8,
+    pub record: R,
+}
 
 // What an office is told of its seats: Moshe's notification of the network event mechanism.
 #[derive(Clone, Copy)]
@@ -70,16 +81,9 @@ pub struct High {
     pub again: u32,
 }
 
-// What a mark calls for: the records that reach the server, and any other.
+// The records that reach the server.
 #[derive(Clone, Copy)]
 pub enum RecordKind {
     Report,
     Proposal,
-    Other,
-}
-
-#[derive(Clone, Copy)]
-pub struct Form {
-    pub kind: RecordKind,
-    pub length: usize,
 }

@@ -4,7 +4,7 @@ ghost use Rattle.std.specs.Prelude.{◌≡◌};
 ghost use Rattle.records.specs.Numbers.{room_above, above_limit, non_zero_count, stray_number};
 
 use seats::SeatSet;
-use seats::offices::{lowest, touched};
+use seats::offices::{first, touched};
 
 // L.
 pub const LIMIT: u32 = 2_000_000_000;
@@ -24,10 +24,8 @@ pub fn above_limit(numbers: &[u32; 16]) -> bool
     ensures { result ≡ above_limit numbers.now }
 {
     let mut above = false;
-    let mut o: usize = 0;
-    while o < 16 {
-        above = (LIMIT < numbers[o]) | above;
-        o += 1;
+    for n in numbers {
+        above = (LIMIT < *n) | above;
     }
     above
 }
@@ -37,10 +35,8 @@ fn nonzero(numbers: &[u32; 16]) -> u32
     ensures { result ≡ non_zero_count numbers.now }
 {
     let mut all: u32 = 0;
-    let mut o: usize = 0;
-    while o < 16 {
-        all = all + (numbers[o] != 0) as u32;
-        o += 1;
+    for n in numbers {
+        all += (*n != 0) as u32;
     }
     all
 }
@@ -53,10 +49,9 @@ pub fn stray_number(members: SeatSet, numbers: &[u32; 16]) -> bool
     let offices = touched(members);
     let mut left = offices.bits;
     let mut others = nonzero(numbers);
-    while left != 0 {
-        let o = lowest(left) as usize;
-        others = others - (numbers[o] != 0) as u32;
-        left = left & (left - 1);
+    while let Some(o) = first(left) {
+        others -= (numbers[o as usize] != 0) as u32;
+        left &= left - 1;
     }
     others != 0
 }

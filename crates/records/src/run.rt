@@ -1,30 +1,32 @@
 // The reading of a run of records: each is handed back as a part of the caller's own input.
 ghost use Rattle.std.specs.Prelude.{◌≡◌, length, ◌≤◌};
+ghost use Rattle.records.specs.Refusals.{refusal_of};
 ghost use Rattle.records.specs.Run.{too_few, run_check, fitting, run_size, run_first, run_rest, Part};
 
-use crate::{RecordKind, form_of};
+use crate::{Refusal, kind_of};
 
 // 5 where fewer bytes remain than the mark's length.
-fn too_few(n: usize, run: &[u8]) -> u8
-    ensures { result ≡ too_few n run.now }
+fn too_few(n: usize, run: &[u8]) -> Result<(), Refusal>
+    ensures { refusal_of result ≡ too_few n run.now }
 {
-    if run.len() < n { 5 } else { 0 }
+    if run.len() < n {
+        Err(Refusal::Length)
+    } else {
+        Ok(())
+    }
 }
 
-// The number with which the run ends here; 0 where nothing remains, or where a whole record stands in front.
-pub fn run_check(run: &[u8]) -> u8
-    ensures { result ≡ run_check run.now }
+// The refusal with which the run ends here; none where nothing remains, or where a whole record stands in front.
+pub fn run_check(run: &[u8]) -> Result<(), Refusal>
+    ensures { refusal_of result ≡ run_check run.now }
 {
-    if run.len() == 0 {
-        return 0;
+    if run.is_empty() {
+        return Ok(());
     }
-    let f = form_of(run);
-    let kind = f.kind;
-    match kind {
-        RecordKind::Report => too_few(f.length, run),
-        RecordKind::Proposal => too_few(f.length, run),
-        RecordKind::Other => 4,
-    }
+    let Some(kind) = kind_of(run) else {
+        return Err(Refusal::Mark);
+    };
+    too_few(kind.length(), run)
 }
 
 // The number n where the run has so many bytes, else 0.
@@ -38,8 +40,10 @@ fn fitting(n: usize, run: &[u8]) -> usize
 fn run_size(run: &[u8]) -> usize
     ensures { (result ≡ run_size run.now) × (result ≤ length run.now) }
 {
-    let f = form_of(run);
-    fitting(f.length, run)
+    match kind_of(run) {
+        Some(kind) => fitting(kind.length(), run),
+        None => 0,
+    }
 }
 
 // The record in front; empty where the run ends here.

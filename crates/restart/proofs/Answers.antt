@@ -8,8 +8,7 @@ use Rattle.laws.proofs.Fin.{if_cases, as-facts}
 use Rattle.records.specs.Numbers.{limit}
 use Rattle.rules.specs.MarkFile.{wholes, last_high, good_file}
 use Rattle.rule_laws.proofs.MarkFile.{last_within}
-use Rattle.restart.specs.declared.marks.Marks.{Marks}
-use Rattle.restart.specs.Marks.{marks_of}
+use Rattle.restart.specs.Marks.{Marks, marks_of}
 
 pub good_is : (f : List ℕ) → (marks_of f).good ≡ good_file f
 unfolding marks_of

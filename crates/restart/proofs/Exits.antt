@@ -1,4 +1,5 @@
 -- For leaving: what is answered at each exit, by what the readers and the checks tell, and what the output is then.
+use Rattle.std.specs.Prelude.{Option, None, Some}
 use mathlib.Core.Path.{◌≡◌, refl, sym, ap, ◌∙◌}
 use mathlib.Core.Bool.{Bool, true, false}
 use mathlib.Core.List.{List}
@@ -7,63 +8,71 @@ use native.Mathlib.Omega.{arith}
 use lib.ListN.{length, take}
 use lib.Seq.{length-take-le, get_or-take}
 use lib.Dec.{eqb}
-use borrow.Author.Tests.{eqb-false, ltb-false, ne_eqb, lt-ltb, le-ltb, le-leb}
+use borrow.Author.Tests.{eqb-false, ltb-false, lt-ltb, le-ltb, le-leb}
 use Rattle.laws.specs.Checks.{first_of}
 use Rattle.laws.specs.Upd.{ifb}
 use Rattle.laws.proofs.Checks.{first_none}
 use Rattle.records.specs.Layout.{notice_mark, proposal_mark, view_mark, notice_length, proposal_length, view_length}
-use Rattle.records.specs.Layout.{high_length, value_of, mark_of, check_own, encode_high}
+use Rattle.records.specs.Layout.{high_length, value_of, mark_of, encode_high}
+use Rattle.records.specs.Layout.{decode_notice, decode_proposal, decode_view}
 use Rattle.records.specs.Write.{placed, Placed}
-use Rattle.records.specs.declared.Notice.{Notice}
-use Rattle.records.specs.declared.Proposal.{Proposal}
-use Rattle.records.specs.declared.View.{View}
-use Rattle.records.proofs.CheckLaws.{own_4, long_mark}
+use Rattle.records.specs.declared.refusal.Refusal.{Refusal}
+use Rattle.records.specs.Refusals.{number}
+use Rattle.records.proofs.CheckLaws.{long_mark, sized_all}
 use Rattle.records.proofs.Lengths.{high_length_lem}
-use Rattle.record_bytes.proofs.notices.Reading.{notice_refusal, notice_decoded}
-use Rattle.record_bytes.proofs.proposals.Reading.{proposal_refusal, proposal_decoded}
-use Rattle.record_bytes.proofs.views.Reading.{view_refusal, view_decoded}
-use Rattle.rules.specs.Rules.{notice, proposal, view}
+use Rattle.rules.specs.Rules.{Written, notice, proposal, view}
 use Rattle.rules.specs.MarkFile.{high_bytes}
 use Rattle.rules.specs.Leaving.{largest_in}
-use Rattle.restart.specs.declared.leaving.DueMark.{DueMark}
-use Rattle.restart.specs.Before.{leaving_length, front_length, leaving_record, front_largest, read_largest}
+use Rattle.events.proofs.ReadLaws.{reason_some}
+use Rattle.restart.specs.declared.leaving.Kind.{Kind}
+use Rattle.restart.specs.declared.leaving.Kind.TheVariants as kinds
+use Rattle.restart.specs.Before.{leaving_length, front_length, leaving_record, front_largest}
+use Rattle.restart.specs.Before.{leaving_kind, length_as, read_largest, DueMark}
 use Rattle.restart.specs.Before.{short_output, no_record, cut_short, leaves_above, front_checks, before_checks}
 use Rattle.restart.specs.Before.{mark_for, no_leave, before_of, out_before}
 
--- each of the three records has more bytes than a mark
-some_length : (m : ℕ) → 0 < leaving_length m → 2 ≤ leaving_length m
-unfolding leaving_length
-some_length m = go (eqb m (value_of notice_mark)) (eqb m (value_of proposal_mark)) (eqb m (value_of view_mark))
+-- the kind has the length that the mark calls for, and its reader tells what the record is
+length_kind : (m : ℕ) → length_as (leaving_kind m) ≡ leaving_length m
+unfolding leaving_kind leaving_length
+length_kind m = go (eqb m (value_of notice_mark)) (eqb m (value_of proposal_mark)) (eqb m (value_of view_mark))
   where
-    go : (a b c : Bool) → let n = ifb a notice_length (ifb b proposal_length (ifb c view_length 0)) in 0 < n → 2 ≤ n
-    go true b c h = omega arith
-    go false true c h = omega arith
-    go false false true h = omega arith
-    go false false false h = absurd (omega arith)
+    go : (n p v : Bool)
+        → length_as (ifb n (Some kinds.Notice) (ifb p (Some kinds.Proposal) (ifb v (Some kinds.View) None)))
+        ≡ ifb n notice_length (ifb p proposal_length (ifb v view_length 0))
+    go true p v = refl
+    go false true v = refl
+    go false false true = refl
+    go false false false = refl
 
--- the readers accept a record of its mark's length
-module _ (b : List ℕ) (some : 0 < leaving_length (mark_of b)) (whole : length b ≡ leaving_length (mark_of b)) where
-  passes : (mark : List ℕ) → eqb (mark_of b) (value_of mark) ≡ true → check_own mark (leaving_length (mark_of b)) b ≡ 0
-  passes mark t = own_4 mark (leaving_length (mark_of b)) b whole some ∙ rw t
+abbrev record_by : Kind → List ℕ → Written
+record_by kinds.Notice b = notice (decode_notice b)
+record_by kinds.Proposal b = proposal (decode_proposal b)
+record_by kinds.View b = view (decode_view b)
 
-  read_largest_lem : read_largest (mark_of b) b ≡ largest_in (leaving_record b)
-  unfolding read_largest leaving_record leaving_length
-  read_largest_lem =
-      go (eqb (mark_of b) (value_of notice_mark)) (eqb (mark_of b) (value_of proposal_mark))
-      (eqb (mark_of b) (value_of view_mark)) refl refl refl
-    where
-      go : (n p v : Bool) → eqb (mark_of b) (value_of notice_mark) ≡ n → eqb (mark_of b) (value_of proposal_mark) ≡ p
-          → eqb (mark_of b) (value_of view_mark) ≡ v → read_largest (mark_of b) b ≡ largest_in (leaving_record b)
-      go true p v x y z =
-          let c : check_own notice_mark notice_length b ≡ 0 = rw x at (passes notice_mark x) in
-          rw x (ap (λ (r : Notice). largest_in (notice r)) (notice_decoded b (notice_refusal b ∙ c)))
-      go false true v x y z =
-          let c : check_own proposal_mark proposal_length b ≡ 0 = rw (x, y) at (passes proposal_mark y) in
-          rw (x, y) (ap (λ (r : Proposal). largest_in (proposal r)) (proposal_decoded b (proposal_refusal b ∙ c)))
-      go false false true x y z =
-          let c : check_own view_mark view_length b ≡ 0 = rw (x, y, z) at (passes view_mark z) in
-          rw (x, y) (ap (λ (r : View). largest_in (view r)) (view_decoded b (view_refusal b ∙ c)))
-      go false false false x y z = let s : 0 < 0 = rw (x, y, z) at some in absurd (omega arith)
+record_kind : (b : List ℕ) (k : Kind) → leaving_kind (mark_of b) ≡ Some k → leaving_record b ≡ record_by k b
+unfolding leaving_kind leaving_record
+record_kind b k e =
+    go (eqb (mark_of b) (value_of notice_mark)) (eqb (mark_of b) (value_of proposal_mark))
+    (eqb (mark_of b) (value_of view_mark)) e
+  where
+    go : (n p v : Bool)
+        → ifb n (Some kinds.Notice) (ifb p (Some kinds.Proposal) (ifb v (Some kinds.View) None)) ≡ Some k
+        → ifb n (notice (decode_notice b)) (ifb p (proposal (decode_proposal b)) (view (decode_view b))) ≡ record_by k b
+    go true p v e = let same : kinds.Notice ≡ k = cc in rw (← same) refl
+    go false true v e = let same : kinds.Proposal ≡ k = cc in rw (← same) refl
+    go false false true e = let same : kinds.View ≡ k = cc in rw (← same) refl
+    go false false false e = absurd cc
+
+read_kind : (k : Kind) (b : List ℕ) → length b ≡ length_as (Some k) → read_largest k b ≡ largest_in (record_by k b)
+unfolding read_largest
+read_kind kinds.Notice b l = rw (sized_all notice_length b l)
+read_kind kinds.Proposal b l = rw (sized_all proposal_length b l)
+read_kind kinds.View b l = rw (sized_all view_length b l)
+
+kind_long : (k : Kind) → 2 ≤ length_as (Some k)
+kind_long kinds.Notice = omega arith
+kind_long kinds.Proposal = omega arith
+kind_long kinds.View = omega arith
 
 -- a front part has the same mark
 pub part_mark : (n : ℕ) (b : List ℕ) → 2 ≤ n → n ≤ length b → mark_of (take n b) ≡ mark_of b
@@ -72,14 +81,14 @@ part_mark n b t l =
     long_mark (take n b) (omega arith)
     ∙ rw (get_or-take n b 0 0 (omega arith), get_or-take n b 1 0 (omega arith)) (sym (long_mark b (omega arith)))
 
--- the record in front, as the readers read it
-front_read : (rest : List ℕ) → no_record (front_length rest) ≡ false → front_length rest ≤ length rest
-    → read_largest (mark_of rest) (take (front_length rest) rest) ≡ front_largest rest
-front_read rest t l =
-    let n = front_length rest in
-    let some : 0 < n = let q = eqb-false n 0 t in omega arith in
-    let e : mark_of (take n rest) ≡ mark_of rest = part_mark n rest (some_length (mark_of rest) some) l in
-    rw e at (read_largest_lem (take n rest) (rw e some) (length-take-le n rest l ∙ ap leaving_length (sym e)))
+-- the record in front, as its reader reads it
+front_read : (rest : List ℕ) (k : Kind) → leaving_kind (mark_of rest) ≡ Some k → (n : ℕ) → n ≡ length_as (Some k)
+    → n ≤ length rest → read_largest k (take n rest) ≡ largest_in (leaving_record (take n rest))
+front_read rest k is n size l =
+    let long = kind_long k in
+    let e : mark_of (take n rest) ≡ mark_of rest = part_mark n rest (omega arith) l in
+    read_kind k (take n rest) (length-take-le n rest l ∙ size)
+    ∙ ap largest_in (sym (record_kind (take n rest) k (ap leaving_kind e ∙ is)))
 
 -- none of the first three checks applies
 pub record FrontFits (output n size : ℕ) : Type 0 where
@@ -124,37 +133,46 @@ module _ (last : ℕ) (rest : List ℕ) (output : ℕ) where
   unfolding before_of
   before_leaves f t = rw (first_8 f, t)
 
-  -- the mark that the bytes start with, what it calls for, and the first of 3, 4 and 5
-  module _ (m : ℕ) (is-mark : m ≡ mark_of rest) (n : ℕ) (is-length : n ≡ leaving_length m) (r : ℕ)
-      (is-first : r ≡ first_of (front_checks output n (length rest))) where
-    front : n ≡ front_length rest
-    front = is-length ∙ ap leaving_length is-mark
+  -- the first of 3, 4 and 5, by the kind of the record in front
+  front : (k : Option Kind) → k ≡ leaving_kind (mark_of rest) → length_as k ≡ front_length rest
+  front k is = ap length_as is ∙ length_kind (mark_of rest)
 
-    first : r ≡ first_of (front_checks output (front_length rest) (length rest))
-    first = is-first ∙ ap (λ (k : ℕ). first_of (front_checks output k (length rest))) front
+  pub at_front : (k : Option Kind) → k ≡ leaving_kind (mark_of rest) → (r : Refusal)
+      → number r ≡ first_of (front_checks output (length_as k) (length rest))
+      → no_leave (number r) ≡ before_of last rest output
+  unfolding before_of
+  at_front k is r e =
+      let first = e ∙ ap (λ (n : ℕ). first_of (front_checks output n (length rest))) (front k is) in
+      rw (first_3 (number r) first (eqb-false _ _ (reason_some r)), reason_some r)
 
-    pub at_front : (r ≡ 0 → ⊥) → no_leave r ≡ before_of last rest output
-    unfolding before_of
-    at_front h = rw (first_3 r first h, ne_eqb r 0 h)
+  -- none of them, and the kind
+  module _ (o : Option Kind) (is_kind : o ≡ leaving_kind (mark_of rest)) (k : Kind) (some : o ≡ Some k)
+      (is_first : 0 ≡ first_of (front_checks output (length_as o) (length rest)))
+      (n : ℕ) (is_length : n ≡ length_as (Some k)) where
+    size : n ≡ front_length rest
+    size = is_length ∙ ap length_as (sym some) ∙ front o is_kind
 
-    module _ (z : r ≡ 0) where
-      fits : FrontFits output (front_length rest) (length rest)
-      fits = fits_out output (front_length rest) (length rest) (sym first ∙ z)
+    fits : FrontFits output (front_length rest) (length rest)
+    fits =
+        fits_out output (front_length rest) (length rest)
+        (sym (is_first ∙ ap (λ (n : ℕ). first_of (front_checks output n (length rest))) (front o is_kind)))
 
-      pub within_rest : n ≤ length rest
-      within_rest = rw front (ltb-false _ _ fits.enough)
+    pub within_rest : n ≤ length rest
+    within_rest = rw size (ltb-false _ _ fits.enough)
 
-      module _ (x : ℕ) (is-largest : x ≡ read_largest m (take n rest)) where
-        largest : x ≡ front_largest rest
-        largest = is-largest ∙ rw (is-mark, front) (front_read rest fits.marked (ltb-false _ _ fits.enough))
+    module _ (x : ℕ) (is_largest : x ≡ read_largest k (take n rest)) where
+      largest : x ≡ front_largest rest
+      largest =
+          is_largest ∙ front_read rest k (sym is_kind ∙ some) n is_length within_rest
+          ∙ ap (λ (m : ℕ). largest_in (leaving_record (take m rest))) size
 
-        pub at_above : leaves_above last x ≡ true → no_leave 8 ≡ before_of last rest output
-        unfolding before_of
-        at_above t = rw (first_8 fits, rw largest at t)
+      pub at_above : leaves_above last x ≡ true → no_leave 8 ≡ before_of last rest output
+      unfolding before_of
+      at_above t = rw (first_8 fits, rw largest at t)
 
-        pub at_leave : leaves_above last x ≡ false → (k : ℕ) → k ≡ mark_for last x
-            → record { refusal = 0; length = n; mark = k } ≡ before_of last rest output
-        at_leave t k e = rw (e, front, largest) (sym (before_leaves fits (rw largest at t)))
+      pub at_leave : leaves_above last x ≡ false → (m : ℕ) → m ≡ mark_for last x
+          → record { refusal = 0; length = n; mark = m } ≡ before_of last rest output
+      at_leave t m e = rw (e, size, largest) (sym (before_leaves fits (rw largest at t)))
 
 -- the output
 module _ (last : ℕ) (rest out : List ℕ) (f : DueMark) (is_found : f ≡ before_of last rest (length out)) where

@@ -24,9 +24,8 @@ use Rattle.records.proofs.NumberLaws.{sixteen_below}
 use Rattle.rules.specs.Rules.{Written, notice, proposal, view}
 use Rattle.rules.specs.Refusals.{bytes_of}
 use Rattle.rules.specs.Leaving.{largest_in}
-use Rattle.restart.specs.declared.leaving.DueMark.{DueMark}
 use Rattle.restart.specs.Before.{leaving_length, front_length, leaving_record, front_largest}
-use Rattle.restart.specs.Before.{before_checks, mark_for, before_of}
+use Rattle.restart.specs.Before.{before_checks, mark_for, DueMark, before_of}
 use Rattle.restart.specs.Caller.{HasSixteen}
 use Rattle.restart.proofs.Exits.{FrontFits, before_leaves}
 

@@ -4,6 +4,7 @@ pub mod Answers
 -- restarting, and what the words hold then
 pub mod RestartTables
 -- leaving
+mod Largest
 mod Exits
 mod Cases
 -- what the call reads of the bytes of an answer

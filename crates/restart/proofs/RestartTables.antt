@@ -28,8 +28,7 @@ use Rattle.row.proofs.Words.{restarted_shaped}
 use Rattle.row.proofs.Holds.{Holds, shaped_holds}
 use Rattle.row.proofs.Tables.{table_row, table_sound}
 use Rattle.step.specs.Fresh.{fresh_words}
-use Rattle.restart.specs.declared.marks.Marks.{Marks}
-use Rattle.restart.specs.Marks.{marks_of}
+use Rattle.restart.specs.Marks.{Marks, marks_of}
 use Rattle.restart.specs.Restart.{restart_words}
 use Rattle.restart.proofs.Answers.{good_is, last_is, good_last}
 

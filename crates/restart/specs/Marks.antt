@@ -1,16 +1,23 @@
 -- What a file of high marks answers: whether it passes 18, and its last whole mark, 0 where it does not.
-use Rattle.std.specs.Prelude.{Bool, true, false, ◌&&◌, List, ℕ, eqb}
+use Rattle.std.specs.Prelude.{Bool, true, false, Option, None, Some, List, ℕ}
 use Rattle.laws.specs.Upd.{ifb}
-use Rattle.record_bytes.specs.declared.highs.HighRead.{HighRead}
-use Rattle.rules.specs.MarkFile.{may_follow, wholes, all_high, last_high, good_file}
-use Rattle.restart.specs.declared.marks.Marks.{Marks}
+use Rattle.rules.specs.MarkFile.{wholes, high_number, is_high, all_high, last_high, good_file}
 
--- a record, as it was read, is such a mark, where the one before it has number p
-unfoldable pub reads_high : ℕ → HighRead → Bool
-reads_high p r = eqb r.refusal 0 && eqb r.high.number r.high.again && may_follow p r.high.number
+pub record Marks : Type 0 where
+  pub good : Bool
+  pub last : ℕ
+
+-- the number of a record that is such a mark, where the one before it has number p
+unfoldable pub high_after : ℕ → List ℕ → Option ℕ
+high_after p b = ifb (is_high p b) (Some (high_number b)) None
 
 abbrev pub no_marks : Marks
 no_marks = record { good = false; last = 0 }
+
+-- what code answers of it: the last mark, none where the file is not good
+abbrev pub marks_as : Option ℕ → Marks
+marks_as None = no_marks
+marks_as (Some n) = record { good = true; last = n }
 
 -- by its records, whatever its length
 unfoldable pub marks_in : List ℕ → Marks

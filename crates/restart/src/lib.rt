@@ -12,5 +12,5 @@ mod restarting;
 mod leaving;
 
 pub use leaving::{DueMark, mark_before};
-pub use marks::{Marks, last_mark};
+pub use marks::last_mark;
 pub use restarting::restart;

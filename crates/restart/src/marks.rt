@@ -1,26 +1,20 @@
 // One pass over a file of high marks: whether it passes 18, and the last whole mark. What stands behind the whole
 // records is not looked at.
-ghost use Rattle.std.specs.Prelude.{◌≡◌, ◌+◌, eqb};
+ghost use Rattle.std.specs.Prelude.{◌≡◌, ◌+◌, eqb, length};
 ghost use Rattle.laws.specs.Upd.{ifb};
+ghost use Rattle.records.specs.Layout.{high_length};
 ghost use Rattle.rules.specs.MarkFile.{gap, may_follow};
-ghost use Rattle.restart.specs.Marks.{reads_high, marks_in, marks_of};
+ghost use Rattle.restart.specs.Marks.{high_after, marks_as, marks_in, marks_of};
 
-use record_bytes::highs::{HighRead, read_high};
-use records::layout;
+use record_bytes::read;
 use records::numbers::LIMIT;
+use records::{High, layout};
 
 // How far a mark reaches above the number for which it is written.
 pub const GAP: u32 = 1_000_000;
 
 // The longest file.
 const FILE_LIMIT: usize = 2_001 * layout::HIGH_LENGTH;
-
-// What a file answers: whether it is good, and its last whole mark; 0 where it is not, and where there is none.
-#[derive(Clone, Copy)]
-pub struct Marks {
-    pub good: bool,
-    pub last: u32,
-}
 
 // The number that the next mark must be above, L aside.
 fn least(p: u32) -> u64
@@ -30,51 +24,46 @@ fn least(p: u32) -> u64
 }
 
 // Whether a mark of number n may come after one of number p, 0 before the first.
+#[tactic(auto, unfolding(rules::specs::MarkFile::may_follow))]
 fn may_follow(p: u32, n: u32) -> bool
     ensures { result ≡ may_follow p n }
 {
     (n <= LIMIT) & ((least(p) < n as u64) | ((n == LIMIT) & (p < LIMIT)))
 }
 
-// Whether a record, as it was read, is such a mark, where the one before it has number p.
-fn is_high(p: u32, read: HighRead) -> bool
-    ensures { result ≡ reads_high p read }
+// The number of a record that is such a mark, where the one before it has number p.
+fn high_after(p: u32, bytes: &[u8]) -> Option<u32>
+    requires { length bytes.now ≡ high_length }
+    ensures { result ≡ high_after p bytes.now }
 {
-    let high = read.high;
-    (read.refusal == 0) & (high.number == high.again) & may_follow(p, high.number)
+    let Ok(high) = read::<High>(bytes) else {
+        return None;
+    };
+    if (high.number == high.again) & may_follow(p, high.number) {
+        Some(high.number)
+    } else {
+        None
+    }
 }
 
-// Each record is a part of the file itself. The first that is no mark ends it.
-fn pass(file: &[u8]) -> Marks
-    ensures { result ≡ marks_in file.now }
+// The last mark of the whole records, 0 where there are none; the first that is no mark ends it.
+fn pass(file: &[u8]) -> Option<u32>
+    ensures { marks_as result ≡ marks_in file.now }
 {
-    let count = file.len() / layout::HIGH_LENGTH;
-    let mut last: u32 = 0;
-    let mut k: usize = 0;
-    while k < count {
-        let at = k * layout::HIGH_LENGTH;
-        let read = read_high(&file[at..at + layout::HIGH_LENGTH]);
-        if !is_high(last, read) {
-            return Marks {
-                good: false,
-                last: 0,
-            };
-        }
-        last = read.high.number;
-        k += 1;
+    let mut last = 0;
+    for bytes in file.chunks_exact(layout::HIGH_LENGTH) {
+        last = high_after(last, bytes)?;
     }
-    Marks { good: true, last }
+    Some(last)
 }
 
-// Any file.
-pub fn last_mark(file: &[u8]) -> Marks
-    ensures { result ≡ marks_of file.now }
+// The last whole mark of any file, 0 where there is none; none where the file is not good.
+pub fn last_mark(file: &[u8]) -> Option<u32>
+    ensures { marks_as result ≡ marks_of file.now }
 {
-    if FILE_LIMIT < file.len() {
-        return Marks {
-            good: false,
-            last: 0,
-        };
+    if file.len() <= FILE_LIMIT {
+        pass(file)
+    } else {
+        None
     }
-    pass(file)
 }

@@ -6,6 +6,9 @@ pub mod Low
 mod Stretches
 mod Kept
 pub mod StoreLaws
+pub mod OwnKept
 pub mod Words
+pub mod ModeTests
 pub mod Holds
 pub mod Tables
+mod Chunks

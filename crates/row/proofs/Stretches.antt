@@ -6,6 +6,8 @@ use Prim.Native.Nat.{ℕ, zero, suc, ◌+◌, ◌<◌}
 use native.Mathlib.Omega.{arith}
 use lib.ListN.{get_or}
 use lib.Dec.{leb}
+use borrow.Author.Tests.{le-leb}
+use Rattle.std.proofs.lemmas.Bool.Decides.{nat_tests}
 use Rattle.laws.specs.Fin.{allb}
 use Rattle.laws.proofs.Fin.{allb_ext}
 use Rattle.rules.specs.State.{stored_at}
@@ -79,3 +81,14 @@ module _ (ws : List ℕ) where
       go true true false false a b c t = refl
       go true false s n a b c t = refl
       go false v s n a b c t = refl
+
+-- of an office that there is, and of one that there is not
+pub own_stretch : (ws : List ℕ) → (state_of ws).own < 16
+    → allb own_numbers (λ k. within (get_or ws (start_place + k) 0))
+    && allb 16 (λ o. slot_within (stored_at (state_of ws) o))
+    ≡ well_formed (state_of ws)
+unfolding state_of
+own_stretch ws h = rw (well-stretch ws, le-leb (get_or ws own_place 0) 15 (omega arith))
+
+pub no_office : (ws : List ℕ) → 15 < get_or ws own_place 0 → well_formed (state_of ws) ≡ false
+no_office ws h = rw (well-stretch ws) (grind (arith, nat_tests))

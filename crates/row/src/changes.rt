@@ -1,66 +1,66 @@
 // Changes of what a row holds, in place, but for the stored proposals.
 ghost use Rattle.std.specs.Prelude.{◌≡◌, ◌<◌, ◌≤◌, length};
 ghost use Rattle.rules.specs.Rules.{restarted};
-ghost use Rattle.row.specs.Row.{row_length, Row, words_of, mode_of};
-ghost use Rattle.row.specs.Changes.{Changed};
+ghost use Rattle.row.specs.Row.{row_length, words_of};
+ghost use Rattle.row.specs.Modes.{meaning};
+ghost use Rattle.row.specs.Moved.{Moved};
 ghost use Rattle.rules.specs.State.{with_mode, with_net_set, with_start, with_number, with_view};
 ghost use Rattle.rules.specs.State.{with_accepted, with_used};
 
-use crate::layout;
+use crate::lent::RowMut;
 use crate::stores::{put_run, put_set, put_zeros};
+use crate::{Mode, layout};
 use records::View;
 use seats::SeatSet;
 
-pub fn set_mode(s: &mut [u32], kind: u8)
-    requires { Row s.old × (kind ≤ 2) }
-    ensures { Changed (with_mode (mode_of kind)) s.old s.new }
-{
-    s[layout::MODE] = kind as u32;
-}
+// One for each place: what each promises is of another part of the state, which one for all places could not say.
+impl RowMut<'_> {
+    pub fn set_mode(&mut self, mode: Mode)
+        ensures { Moved (with_mode (meaning mode)) self.old self.new }
+    {
+        self.words[layout::MODE] = mode as u32;
+    }
 
-pub fn set_start(s: &mut [u32], n: u32)
-    requires { Row s.old }
-    ensures { Changed (with_start n) s.old s.new }
-{
-    s[layout::START] = n;
-}
+    pub fn set_start(&mut self, n: u32)
+        ensures { Moved (with_start n) self.old self.new }
+    {
+        self.words[layout::START] = n;
+    }
 
-pub fn set_number(s: &mut [u32], n: u32)
-    requires { Row s.old }
-    ensures { Changed (with_number n) s.old s.new }
-{
-    s[layout::NUMBER] = n;
-}
+    pub fn set_number(&mut self, n: u32)
+        ensures { Moved (with_number n) self.old self.new }
+    {
+        self.words[layout::NUMBER] = n;
+    }
 
-pub fn set_accepted(s: &mut [u32], o: usize, n: u32)
-    requires { Row s.old × (o < 16) }
-    ensures { Changed (with_accepted o n) s.old s.new }
-{
-    s[layout::ACCEPTED + o] = n;
-}
+    pub fn set_accepted(&mut self, o: usize, n: u32)
+        requires { o < 16 }
+        ensures { Moved (with_accepted o n) self.old self.new }
+    {
+        self.words[layout::ACCEPTED + o] = n;
+    }
 
-pub fn set_used(s: &mut [u32], o: usize, n: u32)
-    requires { Row s.old × (o < 16) }
-    ensures { Changed (with_used o n) s.old s.new }
-{
-    s[layout::USED + o] = n;
-}
+    pub fn set_used(&mut self, o: usize, n: u32)
+        requires { o < 16 }
+        ensures { Moved (with_used o n) self.old self.new }
+    {
+        self.words[layout::USED + o] = n;
+    }
 
-pub fn set_net(s: &mut [u32], x: SeatSet)
-    requires { Row s.old }
-    ensures { Changed (with_net_set x) s.old s.new }
-{
-    put_set(s, layout::NET, x);
-}
+    pub fn set_net(&mut self, x: SeatSet)
+        ensures { Moved (with_net_set x) self.old self.new }
+    {
+        put_set(self.words, layout::NET, x);
+    }
 
-pub fn put_view(s: &mut [u32], v: View)
-    requires { Row s.old }
-    ensures { Changed (with_view v) s.old s.new }
-{
-    put_set(s, layout::MEMBERS, v.members);
-    s[layout::VIEW] = v.number;
-    let starts = v.starts;
-    put_run(s, layout::STARTS, &starts);
+    pub fn put_view(&mut self, v: View)
+        ensures { Moved (with_view v) self.old self.new }
+    {
+        let words = &mut *self.words;
+        put_set(words, layout::MEMBERS, v.members);
+        words[layout::VIEW] = v.number;
+        put_run(words, layout::STARTS, &v.starts);
+    }
 }
 
 // The state of an office that begins again at number m, over any words; at 0 it is the fresh one.
@@ -69,7 +69,7 @@ pub fn put_restarted(s: &mut [u32], office: u8, m: u32)
     ensures { s.new ≡ words_of (restarted office m) }
 {
     put_zeros(s);
-    s[layout::OWN] = office as u32;
+    s[layout::OWN] = u32::from(office);
     s[layout::START] = m;
     s[layout::NUMBER] = m;
     s[layout::VIEW] = m;
@@ -79,5 +79,5 @@ pub fn copy(from: &[u32], to: &mut [u32])
     requires { length to.old ≡ length from.now }
     ensures { to.new ≡ from.now }
 {
-    put_run(to, 0, from);
+    to.copy_from_slice(from);
 }

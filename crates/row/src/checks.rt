@@ -4,12 +4,13 @@ ghost use Rattle.laws.specs.Fin.{allb};
 ghost use Rattle.rules.specs.State.{stored_at};
 ghost use Rattle.records.specs.Numbers.{within};
 ghost use Rattle.rules.specs.Refusals.{slot_within, well_formed};
-ghost use Rattle.row.specs.Row.{Row, state_of, sound_row, low_at, stored_low, capped_row};
-ghost use Rattle.row.specs.Row.{NoneAbove};
+ghost use Rattle.row.specs.Row.{sound_row, low_at, stored_low, capped_row, NoneAbove};
+ghost use Rattle.row.specs.Held.{held};
 
-use crate::{LOW, form, layout, present, stored_present};
+use crate::lent::Row;
+use crate::{LOW, form, layout};
 use records::numbers::LIMIT;
-use seats::offices::lowest;
+use seats::offices::first;
 
 const LAST_OFFICE: u32 = 15;
 
@@ -21,80 +22,11 @@ pub fn is_sound(s: &[u32]) -> bool
     ensures { result ≡ sound_row s.now }
 {
     if form::is_row(s) {
-        return is_well_formed(s);
+        if s[layout::OWN] <= LAST_OFFICE {
+            return Row { words: s }.is_well_formed();
+        }
     }
     false
-}
-
-// Whether the numbers that an event builds on are all low: start number, proposal number, view number, and of what is
-// stored start and proposal number.
-pub fn is_capped(s: &[u32]) -> bool
-    requires { Row s.now }
-    ensures { result ≡ capped_row s.now }
-{
-    (s[layout::START] <= LOW)
-        & (s[layout::NUMBER] <= LOW)
-        & (s[layout::VIEW] <= LOW)
-        & is_stored_low(s)
-}
-
-// The same of what is stored: one pass without branches says so for nearly every row, since no number is above the
-// digits of all together.
-fn is_stored_low(s: &[u32]) -> bool
-    requires { Row s.now }
-    ensures { result ≡ stored_low s.now }
-{
-    if stored_digits(s) <= LOW {
-        return true;
-    }
-    stored_low(s)
-}
-
-// The digits of the start and proposal numbers of all slots together.
-fn stored_digits(s: &[u32]) -> u32
-    requires { Row s.now }
-    ensures { NoneAbove result 16 s.now }
-{
-    let mut all = 0u32;
-    let mut o: usize = 0;
-    while o < 16 {
-        let at = layout::STORED_NUMBERS + layout::STORED * o;
-        all = all | s[at] | s[at + layout::STORED_NUMBER];
-        o += 1;
-    }
-    all
-}
-
-// The same by the slots that are present.
-fn stored_low(s: &[u32]) -> bool
-    requires { Row s.now }
-    ensures { result ≡ stored_low s.now }
-{
-    let mut left = present(s);
-    while left != 0 {
-        let o = lowest(left);
-        if !low_at(s, o as usize) {
-            return false;
-        }
-        left = left & !(1u16 << o);
-    }
-    true
-}
-
-// The same of what is stored for office o.
-fn low_at(s: &[u32], o: usize) -> bool
-    requires { Row s.now × (o < 16) }
-    ensures { result ≡ low_at s.now o }
-{
-    let at = layout::STORED_NUMBERS + layout::STORED * o;
-    (s[at] <= LOW) & (s[at + layout::STORED_NUMBER] <= LOW)
-}
-
-fn is_well_formed(s: &[u32]) -> bool
-    requires { Row s.now }
-    ensures { result ≡ well_formed (state_of s.now) }
-{
-    (s[layout::OWN] <= LAST_OFFICE) & are_within(s, layout::START, OWN_NUMBERS) & slots_within(s)
 }
 
 // Whether the next n numbers from a place on are at most L.
@@ -103,37 +35,97 @@ fn are_within(s: &[u32], at: usize, n: usize) -> bool
     ensures { result ≡ allb n (λ k. within (get_or s.now (at + k) 0)) }
 {
     let mut ok = true;
-    let mut k: usize = 0;
-    while k < n {
-        ok = (s[at + k] <= LIMIT) & ok;
-        k += 1;
+    for number in &s[at..at + n] {
+        ok = (*number <= LIMIT) & ok;
     }
     ok
 }
 
-fn slot_within(s: &[u32], o: usize) -> bool
-    requires { Row s.now × (o < 16) }
-    ensures { result ≡ slot_within (stored_at (state_of s.now) o) }
-{
-    if !stored_present(s, o) {
-        return true;
+impl Row<'_> {
+    // Whether the numbers that an event builds on are all low: start number, proposal number, view number, and of what
+    // is stored start and proposal number.
+    pub fn is_capped(self) -> bool
+        ensures { result ≡ capped_row self.entry.words.now }
+    {
+        (self.words[layout::START] <= LOW)
+            & (self.words[layout::NUMBER] <= LOW)
+            & (self.words[layout::VIEW] <= LOW)
+            & self.is_stored_low()
     }
-    are_within(
-        s,
-        layout::STORED_NUMBERS + layout::STORED * o,
-        layout::STORED,
-    )
-}
 
-fn slots_within(s: &[u32]) -> bool
-    requires { Row s.now }
-    ensures { result ≡ allb 16 (λ o. slot_within (stored_at (state_of s.now) o)) }
-{
-    let mut ok = true;
-    let mut o: usize = 0;
-    while o < 16 {
-        ok = slot_within(s, o) & ok;
-        o += 1;
+    // The same of what is stored: one pass without branches says so for nearly every row, since no number is above the
+    // digits of all together.
+    fn is_stored_low(self) -> bool
+        ensures { result ≡ stored_low self.entry.words.now }
+    {
+        if self.stored_digits() <= LOW {
+            return true;
+        }
+        self.stored_low()
     }
-    ok
+
+    // The digits of the start and proposal numbers of all slots together.
+    fn stored_digits(self) -> u32
+        ensures { NoneAbove result 16 self.entry.words.now }
+    {
+        let mut all = 0;
+        for o in 0..16 {
+            let at = layout::STORED_NUMBERS + layout::STORED * o;
+            all = all | self.words[at] | self.words[at + layout::STORED_NUMBER];
+        }
+        all
+    }
+
+    // The same by the slots that are present.
+    fn stored_low(self) -> bool
+        ensures { result ≡ stored_low self.entry.words.now }
+    {
+        let mut left = self.present();
+        while let Some(o) = first(left) {
+            if !self.low_at(usize::from(o)) {
+                return false;
+            }
+            left &= left - 1;
+        }
+        true
+    }
+
+    // The same of what is stored for office o.
+    fn low_at(self, o: usize) -> bool
+        requires { o < 16 }
+        ensures { result ≡ low_at self.entry.words.now o }
+    {
+        let at = layout::STORED_NUMBERS + layout::STORED * o;
+        (self.words[at] <= LOW) & (self.words[at + layout::STORED_NUMBER] <= LOW)
+    }
+
+    fn is_well_formed(self) -> bool
+        ensures { result ≡ well_formed (held self.entry) }
+    {
+        are_within(self.words, layout::START, OWN_NUMBERS) & self.slots_within()
+    }
+
+    fn slot_within(self, o: usize) -> bool
+        requires { o < 16 }
+        ensures { result ≡ slot_within (stored_at (held self.entry) o) }
+    {
+        if !self.stored_present(o) {
+            return true;
+        }
+        are_within(
+            self.words,
+            layout::STORED_NUMBERS + layout::STORED * o,
+            layout::STORED,
+        )
+    }
+
+    fn slots_within(self) -> bool
+        ensures { result ≡ allb 16 (λ o. slot_within (stored_at (held self.entry) o)) }
+    {
+        let mut ok = true;
+        for o in 0..16 {
+            ok = self.slot_within(o) & ok;
+        }
+        ok
+    }
 }

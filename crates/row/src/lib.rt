@@ -5,8 +5,14 @@
 // The places.
 mod layout;
 
+// The modes.
+mod modes;
+
 // Whether words are a row.
 mod form;
+
+// A row, read or changed.
+mod lent;
 
 // What a row holds.
 mod readers;
@@ -27,10 +33,8 @@ pub mod slots;
 pub mod table;
 
 pub use layout::WORDS;
-pub use readers::{
-    accepted, mode, net, number, own, present, start, stored_kind, stored_members, stored_number,
-    stored_present, stored_start, stored_used, used, view_number,
-};
+pub use lent::{Row, RowMut};
+pub use modes::Mode;
 use records::numbers::LIMIT;
 
 // Numbers up to this make none above L in one event, which adds two at most.

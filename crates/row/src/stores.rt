@@ -30,21 +30,12 @@ pub fn put_run(s: &mut [u32], at: usize, w: &[u32])
     requires { at + length w.now ≤ length s.old }
     ensures { s.new ≡ sets s.old at w.now }
 {
-    let n = w.len();
-    let mut k: usize = 0;
-    while k < n {
-        s[at + k] = w[k];
-        k += 1;
-    }
+    s[at..at + w.len()].copy_from_slice(w);
 }
 
 pub fn put_zeros(s: &mut [u32])
     requires { length s.old ≡ row_length }
     ensures { s.new ≡ tab row_length (λ k. 0) }
 {
-    let mut k: usize = 0;
-    while k < layout::WORDS {
-        s[k] = 0;
-        k += 1;
-    }
+    s.fill(0);
 }

@@ -9,14 +9,32 @@ use lib.Pow.{pow-lt}
 use lib.Dec.{eqb}
 use lib.Bits.{bit_and, and_le_l}
 use lib.Count.{count_trailing_zeros}
-use borrow.Author.Tests.{eq-eqb, ne_eqb}
+use borrow.Author.Tests.{eq-eqb, eqb-true, eqb-false, ne_eqb}
 use Rattle.laws.proofs.Fin.{true_false, allb_in, anyb_in, none_anyb}
 use Rattle.laws.proofs.Loops.{all_fails}
 use Rattle.laws.proofs.Lowest.{and_less_one}
 use Rattle.seats.specs.Seats.{has}
-use Rattle.seats.specs.Offices.{lowest_of, every_office, some_office}
+use Rattle.std.proofs.lemmas.Option.{none-some, same_Some}
+use Rattle.std.specs.Prelude.{Option, None, Some}
+use Rattle.laws.specs.Upd.{ifb}
+use Rattle.seats.specs.Offices.{lowest_of, first_of, every_office, some_office}
 use Rattle.seats.proofs.Laws.{has_and, has_not, has_one, has_empty}
 use Rattle.seats.proofs.Counts.{lowest_at_most, lowest_in_lem, empty_lowest, trailing_office}
+
+-- the lowest office as it is found: some where the set is not empty
+some_is : (t : Bool) {o low : ℕ} → Some o ≡ ifb t None (Some low) → (t ≡ false) × (o ≡ low)
+some_is true e = absurd (none-some _ (sym e))
+some_is false e = (refl, same_Some _ _ e)
+
+pub first_some : {left o : ℕ} → Some o ≡ first_of left → (left ≡ 0 → ⊥) × (o ≡ lowest_of left)
+first_some {left} e = let s = some_is (eqb left 0) e in (eqb-false left 0 s.0, s.1)
+
+pub first_none : {left : ℕ} → None ≡ first_of left → left ≡ 0
+first_none {left} e = go (eqb left 0) refl e
+  where
+    go : (t : Bool) → eqb left 0 ≡ t → None ≡ ifb t None (Some (lowest_of left)) → left ≡ 0
+    go true z q = eqb-true left 0 z
+    go false z q = absurd (none-some _ q)
 
 -- the set without office o, as the code makes it: left & !(1u16 << o)
 abbrev pub dropped : ℕ → ℕ → ℕ

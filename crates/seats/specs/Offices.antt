@@ -1,5 +1,5 @@
 -- The offices of a set of seats. There are 16 offices, 0 to 15.
-use Rattle.std.specs.Prelude.{Bool, not, ◌&&◌, ◌||◌, ℕ, zero, suc, ◌+◌, ◌*◌, ◌/◌, ◌^◌, ltb}
+use Rattle.std.specs.Prelude.{Option, None, Some, eqb, Bool, not, ◌&&◌, ◌||◌, ℕ, zero, suc, ◌+◌, ◌*◌, ◌/◌, ◌^◌, ltb}
 use Rattle.laws.specs.Fin.{allb, anyb, sum}
 use Rattle.laws.specs.Lowest.{lowest_below}
 use Rattle.laws.specs.Upd.{ifb}
@@ -45,3 +45,7 @@ touched x = record { bits = offices_of x; count = count_of x }
 -- the lowest office of a sixteen-bit set of offices; 16 where it is empty
 unfoldable pub lowest_of : ℕ → ℕ
 lowest_of b = lowest_below 16 (has b)
+
+-- the same, none where it is empty
+abbrev pub first_of : ℕ → Option ℕ
+first_of b = ifb (eqb b 0) None (Some (lowest_of b))

@@ -1,5 +1,5 @@
 -- Sets of seats as numbers. There are 64 seats, 0 to 63; a set is a 64-bit number.
-use Rattle.std.specs.Prelude.{Bool, ◌&&◌, ℕ, ◌-◌, ◌^◌, eqb, ltb}
+use Rattle.std.specs.Prelude.{Option, None, Some, Bool, ◌&&◌, ℕ, ◌-◌, ◌^◌, eqb, ltb}
 use Rattle.std.specs.Int.Bits.{bit_or, bit_and}
 use Rattle.laws.specs.Bit.{bit}
 use Rattle.laws.specs.Lowest.{lowest_below}
@@ -28,6 +28,10 @@ remove_of x s = ifb (is_seat s) (bit_and x (2 ^ 64 - 1 - 2 ^ s)) x
 -- the lowest seat of a set; 64 where it is empty
 unfoldable pub lowest_seat : ℕ → ℕ
 lowest_seat x = lowest_below seat_count (has x)
+
+-- the same, none where it is empty
+abbrev pub first_seat : ℕ → Option ℕ
+first_seat x = ifb (eqb x 0) None (Some (lowest_seat x))
 
 -- the seats of x or of y
 unfoldable pub union_of : ℕ → ℕ → ℕ

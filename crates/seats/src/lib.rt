@@ -2,7 +2,7 @@
 #![tactic(auto)]
 
 ghost use Rattle.std.specs.Prelude.{◌≡◌, eqb};
-ghost use Rattle.seats.specs.Seats.{is_seat, contains_of, insert_of, remove_of, lowest_seat, union_of, without_of};
+ghost use Rattle.seats.specs.Seats.{is_seat, contains_of, insert_of, remove_of, lowest_seat, first_seat, union_of, without_of};
 
 // The offices of a set: which they are, how many, and the lowest.
 pub mod offices;
@@ -17,7 +17,7 @@ fn is_seat(seat: u8) -> bool
 }
 
 // Bit s of `bits` is set when seat s is in the set.
-#[derive(Clone, Copy)]
+#[derive(Clone, Copy, PartialEq, Eq)]
 pub struct SeatSet {
     pub bits: u64,
 }
@@ -78,22 +78,20 @@ impl SeatSet {
         }
     }
 
-    // The lowest seat, 64 where the set is empty.
-    pub fn lowest(self) -> u8
-        ensures { result ≡ lowest_seat self.bits }
+    // The lowest seat.
+    pub fn first(self) -> Option<u8>
+        ensures { result ≡ first_seat self.bits }
     {
-        u64::trailing_zeros(self.bits) as u8
+        if self.is_empty() {
+            None
+        } else {
+            Some(u64::trailing_zeros(self.bits) as u8)
+        }
     }
 
     pub fn is_empty(self) -> bool
         ensures { result ≡ eqb self.bits 0 }
     {
         self.bits == 0
-    }
-
-    pub fn equals(self, other: SeatSet) -> bool
-        ensures { result ≡ eqb self.bits other.bits }
-    {
-        self.bits == other.bits
     }
 }

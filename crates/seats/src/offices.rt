@@ -2,7 +2,7 @@
 // belongs to office s / 4, rounded down.
 ghost use Rattle.std.specs.Prelude.{◌≡◌};
 ghost use Rattle.std.specs.Int.Count.{ones};
-ghost use Rattle.seats.specs.Offices.{office_of, seats_of, serves, offices_of, touched, lowest_of};
+ghost use Rattle.seats.specs.Offices.{office_of, seats_of, serves, offices_of, touched, lowest_of, first_of};
 
 use crate::SeatSet;
 
@@ -15,11 +15,15 @@ pub struct OfficeSet {
     pub count: u8,
 }
 
-// The lowest office of sixteen bits, 16 where none is set.
-pub fn lowest(bits: u16) -> u8
-    ensures { result ≡ lowest_of bits }
+// The lowest office of sixteen bits.
+pub fn first(bits: u16) -> Option<u8>
+    ensures { result ≡ first_of bits }
 {
-    u16::trailing_zeros(bits) as u8
+    if bits == 0 {
+        None
+    } else {
+        Some(u16::trailing_zeros(bits) as u8)
+    }
 }
 
 // The four seats of each office fall onto its lowest one, and these sixteen bits close up by halves.
@@ -75,7 +79,7 @@ pub fn touched(set: SeatSet) -> OfficeSet
     let offices = gather(seats);
     let bits = offices as u16;
     OfficeSet {
-        bits: bits,
+        bits,
         count: ones(offices),
     }
 }

@@ -3,7 +3,8 @@
 
 use seats::SeatSet;
 
-// Refused under a number of the documents; the record of this member seat is missing; these members named the number.
+// Refused under a number of the documents, as the definition came_along (specs/Sheet) has it; the record of this member
+// seat is missing; these members named the number.
 #[derive(Clone, Copy)]
 pub enum Along {
     Refused(u8),

@@ -1,6 +1,7 @@
 -- For the crates above: what a table holds after the step, and what the output holds.
+use Rattle.std.specs.Prelude.{None, Some, unwrap_or}
 use mathlib.Core.Path.{◌≡◌, refl, sym, ap, ◌∙◌}
-use mathlib.Core.Bool.{Bool, true, false}
+use mathlib.Core.Bool.{Bool, true, false, ◌&&◌, not}
 use mathlib.Core.Logic.{◌⊎◌, inl, inr}
 use mathlib.Core.List.{List, []}
 use Prim.Native.Nat.{ℕ, ◌+◌, ◌≤◌, ◌<◌}
@@ -12,7 +13,7 @@ use native.Mathlib.Decide.{ℕ_discrete, dec_lt}
 use Rattle.laws.proofs.Big.{sets_front, sets_rest}
 use Rattle.laws.specs.Upd.{ifb, upd}
 use Rattle.laws.proofs.Upd.{upd_same}
-use Rattle.records.specs.Numbers.{room_count}
+use Rattle.records.specs.Numbers.{room_count, room_above}
 use Rattle.records.specs.Layout.{room_of}
 use Rattle.records.specs.declared.Report.{Report}
 use Rattle.rules.specs.State.{State}
@@ -27,14 +28,25 @@ use Rattle.rule_laws.proofs.Tables.{room_well}
 use Rattle.rule_laws.proofs.TableSteps.{step_in_room, table_by_lem, table_size}
 use Rattle.rule_laws.proofs.Exits.{no_bytes}
 use Rattle.row.specs.Row.{row_length, state_of, words_of, word}
-use Rattle.row.specs.Table.{row_place, row_at, with_row, table_of, is_table, SoundTable}
+use Rattle.row.specs.Table.{row_place, row_at, with_row, table_of, is_table, sound_table, SoundTable}
 use Rattle.row.proofs.Low.{sound_row_lem}
 use Rattle.row.proofs.Words.{words_state, words_row, state_shaped}
 use Rattle.row.proofs.Tables.{sound_is, sound_length, sound_rows, sound_table_lem, row_self, row_beside}
 use Rattle.row.proofs.Tables.{row_written}
 use Rattle.laws.proofs.Cuts.{get_or_part}
+use Rattle.step.specs.Step.{view_found, view_number_words}
 use Rattle.step.specs.Step.{WordsResult, in_row, in_words, act_words, step_words, Stepped}
 use Rattle.step.proofs.HeldLaws.{on_table}
+
+-- the number of the current view, 0 where there is none
+pub found_number : (ws : List ℕ) (room : ℕ) → unwrap_or (view_found ws room) 0 ≡ view_number_words ws room
+unfolding view_found view_number_words
+found_number ws room = go (sound_table ws && not (room_above room))
+  where
+    go : (t : Bool) → unwrap_or (ifb t (Some (table_of ws room).view.number) None) 0
+        ≡ ifb t (table_of ws room).view.number 0
+    go true = refl
+    go false = refl
 
 -- words that are no table stay
 pub no_table_stays : (ws : List ℕ) (e : RoomEvent) (output : ℕ) → is_table ws ≡ false

@@ -8,9 +8,12 @@ use native.Mathlib.Decide.{ℕ_discrete}
 use lib.Dec.{eqb, ltb}
 use borrow.Author.Tests.{ne_eqb, lt-ltb, le-ltb, ltb-true, ltb-false}
 use Rattle.laws.specs.Upd.{ifb}
+use Rattle.records.specs.declared.refusal.Refusal.{Refusal}
+use Rattle.records.specs.Refusals.{number}
 use Rattle.records.specs.Numbers.{room_above}
 use Rattle.rules.specs.Refusals.{full_room, form_refusal}
 use Rattle.rules.specs.Tables.{RoomEvent}
+use Rattle.events.proofs.ReadLaws.{reason_some}
 use Rattle.row.specs.Table.{sound_table, table_of}
 use Rattle.step.specs.Checks.{unready, unfit}
 
@@ -38,9 +41,9 @@ module _ (ws : List ℕ) (output : ℕ) where
 
 -- checks 2, 3, 20, 6 to 10 and 19, as they are found one after another
 module _ (ws : List ℕ) (e : RoomEvent) (output : ℕ) where
-  pub unfit_unready : (n : ℕ) → n ≡ unready ws output → (n ≡ 0 → ⊥) → n ≡ unfit ws e output
+  pub unfit_unready : (r : Refusal) → number r ≡ unready ws output → number r ≡ unfit ws e output
   unfolding unfit
-  unfit_unready n d h = rw (← d, ne_eqb n 0 h)
+  unfit_unready r d = rw (← d, reason_some r)
 
   module _ (ready : unready ws output ≡ 0) where
     pub unfit_20 : room_above e.room ≡ true → 20 ≡ unfit ws e output

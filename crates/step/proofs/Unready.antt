@@ -6,9 +6,11 @@ use Prim.Native.Nat.{ℕ, ◌≤◌, ◌<◌}
 use native.Mathlib.Omega.{arith}
 use native.Mathlib.Decide.{ℕ_discrete, dec_lt}
 use lib.ListN.{length}
-use borrow.Author.Tests.{ne_eqb, leb-false}
+use borrow.Author.Tests.{ne_eqb, eqb-false, leb-false}
 use Rattle.laws.proofs.Checks.{first_none, no_reason}
 use Rattle.laws.proofs.Fin.{true_false}
+use Rattle.records.specs.declared.refusal.Refusal.{Refusal}
+use Rattle.records.specs.Refusals.{number}
 use Rattle.records.specs.Numbers.{room_count, room_above}
 use Rattle.records.specs.Layout.{room_of}
 use Rattle.rules.specs.Refusals.{full_room, form_refusal}
@@ -18,9 +20,10 @@ use Rattle.rule_laws.proofs.Tables.{act_2, act_3, act_20, act_in_room}
 use Rattle.rule_laws.proofs.Steps.{read_facts}
 use Rattle.rule_laws.proofs.TableSteps.{event_read, read_passes}
 use Rattle.rule_laws.proofs.Turns.{act_refuses}
-use Rattle.events.specs.declared.EventRead.{EventRead}
-use Rattle.events.specs.Events.{event_held, read_event}
-use Rattle.events.proofs.ReadLaws.{read_held, read_number_lem}
+use Rattle.events.specs.declared.Event.{Event}
+use Rattle.events.specs.Events.{EventRead, event_held, read_event}
+use Rattle.events.specs.Reading.{refused_read}
+use Rattle.events.proofs.ReadLaws.{reason_some, read_held, read_number_lem}
 use Rattle.row.specs.Table.{table_of, is_table, sound_table, SoundTable}
 use Rattle.row.proofs.Tables.{well_sound, sound_is, sound_table_lem}
 use Rattle.step.specs.Checks.{unready, unfit}
@@ -81,15 +84,16 @@ module _ (ws : List ℕ) (e : RoomEvent) (output : ℕ) where
         ne_eqb form 0 n,
       )
 
-  pub exit_unfit : (n : ℕ) → n ≡ unfit ws e output → (n ≡ 0 → ⊥) → act_words ws e output ≡ kept n ws
-  exit_unfit n d h = rw d (go (ℕ_discrete (unready ws output) 0) (room_above e.room) refl (ℕ_discrete form 0))
+  pub exit_unfit : (r : Refusal) → number r ≡ unfit ws e output → act_words ws e output ≡ kept (number r) ws
+  exit_unfit n d = rw d (go (ℕ_discrete (unready ws output) 0) (room_above e.room) refl (ℕ_discrete form 0))
     where
       go : Dec (unready ws output ≡ 0) → (a : Bool) → room_above e.room ≡ a → Dec (form ≡ 0)
           → act_words ws e output ≡ kept (unfit ws e output) ws
       go (no u) a r f = unfold unfit in rw (ne_eqb (unready ws output) 0 u) (exit_unready u)
       go (yes z) true r f = unfold unfit in rw (z, r) (exit_20 z r)
       go (yes z) false r (no f) = unfold unfit in rw (z, r, ne_eqb form 0 f) (exit_form z r f)
-      go (yes z) false r (yes f) = absurd (h (d ∙ (unfold unfit in rw (z, r, f))))
+      go (yes z) false r (yes f) =
+          let w : unfit ws e output ≡ 0 = unfold unfit in rw (z, r, f) in absurd (eqb-false _ _ (reason_some n) (d ∙ w))
 
   pub unfit_ready : unfit ws e output ≡ 0 → ReadyEvent ws e output
   unfolding unfit
@@ -105,9 +109,10 @@ module _ (ws : List ℕ) (e : RoomEvent) (output : ℕ) where
 
 -- the step, by what its reading answers
 module _ (office : ℕ) (ws b : List ℕ) (output : ℕ) where
-  pub exit_unread : (n : ℕ) → n ≡ (read_of office b).refusal → (n ≡ 0 → ⊥) → step_words office ws b output ≡ kept n ws
+  exit_unread : (r : Refusal) → number r ≡ (read_of office b).refusal
+      → step_words office ws b output ≡ kept (number r) ws
   unfolding step_words
-  exit_unread n e d = rw (← e, ne_eqb n 0 d)
+  exit_unread r e = rw (← e, reason_some r)
 
   pub exit_acts : (read_of office b).refusal ≡ 0 → step_words office ws b output ≡ act_words ws (record_event b) output
   unfolding step_words
@@ -120,36 +125,43 @@ module _ (office : ℕ) (ws b : List ℕ) (output : ℕ) where
       exit_acts z ∙ exit_unready ws (record_event b) output (λ d. omega (arith, sym u ∙ d))
       ∙ ap (λ (n : ℕ). kept n ws) u
 
+-- a record that is refused
+pub exit_refused_read : (office : ℕ) (ws b : List ℕ) (r : Refusal) → refused_read (number r) ≡ read_event office b
+    → (output : ℕ) → step_words office ws b output ≡ kept (number r) ws
+exit_refused_read office ws b r is output =
+    exit_unread office ws b output r (ap (λ (x : EventRead). x.refusal) is ∙ read_number_lem office b)
+
 -- a record that was read: its event is acted on
+module _ (office : ℕ) (ws b : List ℕ) (e : Event) (is : record { refusal = 0; event = e } ≡ read_event office b) where
+  pub read_zero : (read_of office b).refusal ≡ 0
+  read_zero = sym (ap (λ (x : EventRead). x.refusal) is ∙ read_number_lem office b)
+
+  held : event_held e ≡ record_event b
+  held = ap (λ (x : EventRead). event_held x.event) is ∙ read_held office b ∙ event_read office b read_zero
+
+  pub turn_meets : (o ws' o' : List ℕ) (n k : ℕ)
+      → Stepped e.room (act_words ws (event_held e) (length o)) o n k ws' o'
+      → Stepped (room_of b) (step_words office ws b (length o)) o n k ws' o'
+  turn_meets o ws' o' n k s =
+      rw (exit_acts office ws b (length o) read_zero)
+      (subst (λ (e : RoomEvent). Stepped e.room (act_words ws e (length o)) o n k ws' o') held s)
+
+  -- in a table whose rooms are of the office it passes 6 to 10 and 19 for its room
+  pub event_ready : (output : ℕ) → SoundTable ws → OfOffice office ws → full_room ≤ output
+      → ReadyEvent ws (event_held e) output
+  event_ready output sound own fits =
+      let f = (read_passes office b).0 read_zero in
+      let l = ((read_facts b).0 f.1).1 in
+      subst (λ (e : RoomEvent). ReadyEvent ws e output) (sym held) (record {
+        ready = record { sound = sound; fits = fits };
+        in_room = l;
+        form = rw (own (room_of b) l) f.2;
+      })
+
+-- the same of what the reading gives
 module _ (office : ℕ) (ws b : List ℕ) (r : EventRead) (is : r ≡ read_event office b) where
-  number : r.refusal ≡ (read_of office b).refusal
-  number = ap (λ (x : EventRead). x.refusal) is ∙ read_number_lem office b
-
-  pub exit_refused_read : (output : ℕ) → (r.refusal ≡ 0 → ⊥) → step_words office ws b output ≡ kept r.refusal ws
-  exit_refused_read output d = exit_unread office ws b output r.refusal number d
-
   module _ (z : r.refusal ≡ 0) where
-    pub read_zero : (read_of office b).refusal ≡ 0
-    read_zero = sym number ∙ z
-
-    held : event_held r.event ≡ record_event b
-    held = ap (λ (x : EventRead). event_held x.event) is ∙ read_held office b ∙ event_read office b read_zero
-
-    pub turn_meets : (o ws' o' : List ℕ) (n k : ℕ)
-        → Stepped r.event.room (act_words ws (event_held r.event) (length o)) o n k ws' o'
-        → Stepped (room_of b) (step_words office ws b (length o)) o n k ws' o'
-    turn_meets o ws' o' n k s =
-        rw (exit_acts office ws b (length o) read_zero)
-        (subst (λ (e : RoomEvent). Stepped e.room (act_words ws e (length o)) o n k ws' o') held s)
-
-    -- in a table whose rooms are of the office it passes 6 to 10 and 19 for its room
     pub read_ready : (output : ℕ) → SoundTable ws → OfOffice office ws → full_room ≤ output
         → ReadyEvent ws (event_held r.event) output
-    read_ready output sound own fits =
-        let f = (read_passes office b).0 read_zero in
-        let l = ((read_facts b).0 f.1).1 in
-        subst (λ (e : RoomEvent). ReadyEvent ws e output) (sym held) (record {
-          ready = record { sound = sound; fits = fits };
-          in_room = l;
-          form = rw (own (room_of b) l) f.2;
-        })
+    read_ready =
+        event_ready office ws b r.event (ap (λ (n : ℕ). record { refusal = n; event = r.event }) (sym z) ∙ is)

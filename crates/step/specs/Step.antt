@@ -1,12 +1,15 @@
 -- The acting call and the step on words: what comes of any words, any event or bytes and any output.
-use Rattle.std.specs.Prelude.{◌≡◌, true, ◌&&◌, not, List, [], ℕ, ◌≤◌, ◌<◌, eqb}
+use Rattle.std.specs.Prelude.{◌≡◌, true, ◌&&◌, not, Option, None, Some, List, [], ℕ, ◌≤◌, ◌<◌, length, get_or, eqb}
 use Rattle.std.proofs.lemmas.List.Edits.{sets}
 use Rattle.laws.specs.Upd.{ifb}
 use Rattle.records.specs.Numbers.{room_count, room_above}
 use Rattle.rules.specs.Rules.{Written}
-use Rattle.rules.specs.Refusals.{full_room, Event, form_refusal, Result, act_of, all_bytes, size}
+use Rattle.rules.specs.Refusals.{well_formed, full_room, Event, form_refusal, Result, act_of, all_bytes, size}
 use Rattle.rules.specs.Tables.{RoomEvent, TableResult, act_table, read_of}
-use Rattle.row.specs.Row.{state_of, words_of, sound_row}
+use Rattle.row.specs.Row.{state_of, words_of, sound_row, word}
+use Rattle.row.specs.declared.lent.RowMut.{RowMut}
+use Rattle.row.specs.Held.{held_mut}
+use Rattle.event_parts.specs.declared.output.Output.{Output}
 use Rattle.row.specs.Table.{with_row, table_of, is_table, sound_table, SoundTable}
 
 -- the refusal or 0, what was written, the words at the end
@@ -53,6 +56,11 @@ step_words office ws b output =
 unfoldable pub view_number_words : List ℕ → ℕ → ℕ
 view_number_words ws room = ifb (sound_table ws && not (room_above room)) (table_of ws room).view.number 0
 
+-- what code answers of it: none where there is none
+unfoldable pub view_found : List ℕ → ℕ → Option ℕ
+view_found ws room =
+    ifb (sound_table ws && not (room_above room)) (Some (table_of ws room).view.number) None
+
 -- the answer is the result's, the words are the result's, and the bytes of what was written, each record with the
 -- room, stand at the front of the output, whose rest is as it was
 pub record Stepped (room : ℕ) (q : WordsResult) (o : List ℕ) (refusal written : ℕ) (ws' o' : List ℕ) : Type 0 where
@@ -61,10 +69,25 @@ pub record Stepped (room : ℕ) (q : WordsResult) (o : List ℕ) (refusal writte
   pub same_words : ws' ≡ q.words
   pub same_out : o' ≡ sets o 0 (all_bytes room q.written)
 
+-- the same of a row and an output that are lent, in the room of the output; that words have 32 bits is known of the
+-- words that a row was made of, and not of a row
+pub record SteppedRow (e : Event) (row : RowMut) (out : Output) (refusal written : ℕ) (row' : RowMut) (out' : Output)
+    : Type 0 where
+  pub same_row : row'.words.ghost_name ≡ row.words.ghost_name
+  pub same_bytes : out'.bytes.ghost_name ≡ out.bytes.ghost_name
+  pub stepped : ((k : ℕ) → get_or row'.words.now k 0 < word)
+      → Stepped out.room (act_row row.words.now e) out.bytes.now refusal written row'.words.now out'.bytes.now
+
 -- what the step knows of a room's row, and of the table, once checks 2 and 3 are passed
 pub record Ready (ws : List ℕ) (output : ℕ) : Type 0 where
   pub sound : sound_row ws ≡ true
   pub fits : full_room ≤ output
+
+-- of a row and an output that are lent, before the first record
+pub record ReadyRow (row : RowMut) (out : Output) : Type 0 where
+  pub well : well_formed (held_mut row) ≡ true
+  pub first : out.at ≡ 0
+  pub fits : full_room ≤ length out.bytes.now
 
 pub record ReadyTable (ws : List ℕ) (output : ℕ) : Type 0 where
   pub sound : SoundTable ws

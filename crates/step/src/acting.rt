@@ -5,50 +5,56 @@ ghost use Rattle.laws.specs.Checks.{first_of};
 ghost use Rattle.rules.specs.Refusals.{a_report, a_proposal, form_checks, form_refusal};
 ghost use Rattle.events.specs.Events.{event_held};
 ghost use Rattle.row.specs.Row.{state_of};
-ghost use Rattle.step.specs.Step.{Ready, Stepped, act_row};
+ghost use Rattle.row.specs.Held.{held_mut};
+ghost use Rattle.records.specs.Refusals.{refusal_of};
+ghost use Rattle.step.specs.Answers.{written_of};
+ghost use Rattle.step.specs.Step.{Ready, ReadyRow, Stepped, SteppedRow, act_row};
 
-use crate::answers::{Answer, accept, refuse};
 use crate::refusals;
 use act::on_proposal::act_on_proposal;
 use act::on_report::act_on_report;
+use event_parts::Output;
 use events::{Event, What};
-use records::{Proposal, Report};
+use records::{Proposal, Refusal, Report};
+use row::RowMut;
 
-fn act_report(state: &mut [u32], report: Report, room: u8, out: &mut [u8]) -> Answer
-    requires { Ready state.old (length out.old) }
-    ensures { Stepped room (act_row state.old (a_report report)) out.old result.refusal
-        result.written state.new out.new }
+// A report and a proposal each have a function: one for both would ask each for its checks and its rule, with their
+// contracts, and be no plainer.
+fn act_report(row: &mut RowMut, report: Report, out: &mut Output) -> Result<usize, Refusal>
+    requires { ReadyRow row.old out.old }
+    ensures { SteppedRow (a_report report) row.old out.old (refusal_of result) (written_of result)
+        row.new out.new }
 {
-    let refusal = refusals::report(state, report);
-    if refusal != 0 {
-        return refuse(refusal);
-    }
-    accept(act_on_report(state, report, out, room))
+    refusals::report(row.get(), report)?;
+    act_on_report(row, report, out);
+    Ok(out.at)
 }
 
-fn act_proposal(state: &mut [u32], proposal: Proposal, room: u8, out: &mut [u8]) -> Answer
-    requires { Ready state.old (length out.old)
-        × (first_of (form_checks (state_of state.old).own proposal) ≡ 0) }
-    ensures { Stepped room (act_row state.old (a_proposal proposal)) out.old result.refusal
-        result.written state.new out.new }
+fn act_proposal(row: &mut RowMut, proposal: Proposal, out: &mut Output) -> Result<usize, Refusal>
+    requires { ReadyRow row.old out.old × (first_of (form_checks (held_mut row.old).own proposal) ≡ 0) }
+    ensures { SteppedRow (a_proposal proposal) row.old out.old (refusal_of result) (written_of result)
+        row.new out.new }
 {
-    let refusal = refusals::proposal(state, proposal);
-    if refusal != 0 {
-        return refuse(refusal);
-    }
-    accept(act_on_proposal(state, proposal, out, room))
+    refusals::proposal(row.get(), &proposal)?;
+    act_on_proposal(row, proposal, out);
+    Ok(out.at)
 }
 
 // What the event is picks the rule.
-pub fn act_event(state: &mut [u32], event: Event, out: &mut [u8]) -> Answer
+pub fn act_event(state: &mut [u32], event: Event, out: &mut [u8]) -> Result<usize, Refusal>
     requires { Ready state.old (length out.old)
         × (form_refusal (state_of state.old).own (event_held event).what ≡ 0) }
     ensures { Stepped event.room (act_row state.old (event_held event).what) out.old
-        result.refusal result.written state.new out.new }
+        (refusal_of result) (written_of result) state.new out.new }
 {
-    let what = event.what;
-    match what {
-        What::Report => act_report(state, event.report, event.room, out),
-        What::Proposal => act_proposal(state, event.proposal, event.room, out),
+    let mut row = RowMut { words: state };
+    let mut out = Output {
+        bytes: out,
+        at: 0,
+        room: event.room,
+    };
+    match event.what {
+        What::Report(report) => act_report(&mut row, report, &mut out),
+        What::Proposal(proposal) => act_proposal(&mut row, proposal, &mut out),
     }
 }

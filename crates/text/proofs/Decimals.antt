@@ -1,14 +1,12 @@
 -- For the module digits: a decimal number is the last digits of it, as many as it has.
 use mathlib.Core.Path.{◌≡◌, refl, sym, ap, ◌∙◌}
 use mathlib.Core.List.{[], ◌∷◌}
-use Prim.Native.Nat.{ℕ, zero, suc, ◌+◌, ◌-◌, ◌*◌, ◌/◌, ◌%◌, ◌^◌, ◌≤◌, ◌<◌}
+use Prim.Native.Nat.{ℕ, zero, suc, ◌+◌, ◌*◌, ◌/◌, ◌%◌, ◌^◌, ◌≤◌, ◌<◌}
 use native.Mathlib.Omega.{arith}
-use native.Mathlib.Nat.{pow-succ', pow-suc, pow-le-pow_right, one-le-pow}
-use native.Mathlib.Numerals.{add-one}
+use native.Mathlib.Nat.{pow-succ', one-le-pow}
 use lib.ListN.{length, length-append}
 use borrow.Author.Tests.{lt-ltb, le-ltb}
 use Rattle.text.specs.Digits.{decimal_in, decimal, last_digits}
-use Rattle.text.specs.Lengths.{number_length}
 use Rattle.text.specs.Put.{DigitCount}
 
 pub digits_length : (k n : ℕ) → length (last_digits k n) ≡ k
@@ -58,17 +56,3 @@ decimal_digits n k h = rw h.is (digits_in h.more n n few h.below h.above)
 pub decimal_one : (n : ℕ) → n < 10 → decimal n ≡ (48 + n) ∷ []
 unfolding decimal
 decimal_one n h = one_digit n n h
-
--- the first power of ten above n
-pub digit_count_at : (n k : ℕ) → 1 ≤ k → k ≤ number_length → (1 < k → 10 ^ (k - 1) ≤ n) → n < 10 ^ k → DigitCount n k
-digit_count_at n zero h l g b = absurd (omega arith)
-digit_count_at n (suc k) h l g b =
-    let e : suc k - 1 ≡ k = omega arith in
-    record { more = k; is = refl; few = omega arith; below = b; above = λ z. rw e at (g (omega arith)) }
-
--- 10 to the 18 is the highest that is raised
-pub power_fits : (k : ℕ) → k ≤ 18 → 10 ^ k ≤ 10 ^ 18
-power_fits k h = let z : 0 < 10 = omega arith in pow-le-pow_right z h
-
-pub power_more : (k : ℕ) → 10 ^ k * 10 ≡ 10 ^ (k + 1)
-power_more k = rw add-one (sym (pow-suc 10 k))

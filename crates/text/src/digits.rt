@@ -1,29 +1,21 @@
 // Numbers in decimal and bytes in hexadecimal digits, put into a buffer from a place on; inner to the program.
-ghost use Rattle.std.specs.Prelude.{◌≡◌, ◌+◌, ◌*◌, ◌/◌, ◌%◌, ◌<◌, ◌≤◌, length};
+ghost use Rattle.std.specs.Prelude.{◌≡◌, [], ◌∷◌, ◌+◌, ◌*◌, ◌/◌, ◌%◌, ◌<◌, ◌≤◌, length};
 ghost use Rattle.std.proofs.lemmas.List.Edits.{sets};
 ghost use Rattle.text.specs.Digits.{glyph, decimal, last_digits, hex_of};
 ghost use Rattle.text.specs.Lengths.{number_length};
 ghost use Rattle.text.specs.Put.{Put, DigitCount};
 
-// The most decimal digits that a number has, and the highest power of ten that is a number.
+// The most decimal digits that a number has.
 pub const MOST: usize = 20;
-
-const POWER: usize = MOST - 1;
 
 // How many decimal digits n has.
 fn digit_count(n: u64) -> usize
     ensures { DigitCount n result }
 {
-    let mut k: usize = 1;
-    let mut top: u64 = 10;
-    while k < POWER {
-        if n < top {
-            return k;
-        }
-        top = top * 10;
-        k += 1;
+    match n.checked_ilog10() {
+        Some(more) => more as usize + 1,
+        None => 1,
     }
-    if n < top { POWER } else { MOST }
 }
 
 // The last k digits of n from a place on.
@@ -31,12 +23,10 @@ fn spell(out: &mut [u8], at: usize, k: usize, n: u64)
     requires { at + k ≤ length out.old }
     ensures { out.new ≡ sets out.old at (last_digits k n) }
 {
-    let mut left = k;
     let mut rest = n;
-    while 0 < left {
-        left -= 1;
-        out[at + left] = 48 + (rest % 10) as u8;
-        rest = rest / 10;
+    for i in (0..k).rev() {
+        out[at + i] = 48 + (rest % 10) as u8;
+        rest /= 10;
     }
 }
 
@@ -60,16 +50,11 @@ fn digit(d: u8) -> u8
     if d < 10 { 48 + d } else { 87 + d }
 }
 
-fn high(x: u8) -> u8
-    ensures { result ≡ glyph (x / 16) }
+// The two digits of a byte.
+fn digits_of(byte: u8) -> [u8; 2]
+    ensures { result ≡ glyph (byte / 16) ∷ glyph (byte % 16) ∷ [] }
 {
-    digit(x / 16)
-}
-
-fn low(x: u8) -> u8
-    ensures { result ≡ glyph (x % 16) }
-{
-    digit(x % 16)
+    [digit(byte / 16), digit(byte % 16)]
 }
 
 pub fn put_hex(out: &mut [u8], at: usize, bytes: &[u8]) -> usize
@@ -77,11 +62,10 @@ pub fn put_hex(out: &mut [u8], at: usize, bytes: &[u8]) -> usize
     ensures { Put (2 * length bytes.now) out.old at (hex_of bytes.now) result
         out.new }
 {
-    let mut i: usize = 0;
-    while i < bytes.len() {
-        out[at + 2 * i] = high(bytes[i]);
-        out[at + 2 * i + 1] = low(bytes[i]);
-        i += 1;
+    for (i, byte) in bytes.iter().enumerate() {
+        let [high, low] = digits_of(*byte);
+        out[at + 2 * i] = high;
+        out[at + 2 * i + 1] = low;
     }
     at + 2 * bytes.len()
 }

@@ -1,4 +1,5 @@
 // Lines as text, inner to the program: put into a buffer from a place on; each call answers the place after its text.
+// Buffer and place are two arguments: `Put`, which `put_line` promises of the buffer lent to it, names them apart.
 #![tactic(auto)]
 
 ghost use Rattle.std.specs.Prelude.{◌∷◌, ◌+◌, ◌≤◌, length};
@@ -51,7 +52,7 @@ fn put_trace(out: &mut [u8], at: usize, bytes: &[u8]) -> usize
     ensures { Put (trace_length (length bytes.now)) out.old
         at (trace_of bytes.now) result out.new }
 {
-    if bytes.len() == 0 {
+    if bytes.is_empty() {
         return at;
     }
     out[at] = b' ';

@@ -2,40 +2,39 @@
 // above.
 #![tactic(auto)]
 
-ghost use Rattle.std.specs.Prelude.{◌≡◌, true, ◌<◌};
-ghost use Rattle.row.specs.Row.{Row, state_of, sound_row};
+ghost use Rattle.std.specs.Prelude.{◌≡◌, true};
+ghost use Rattle.rules.specs.Refusals.{well_formed};
+ghost use Rattle.row.specs.Held.{held};
 ghost use Rattle.waiting.specs.Waiting.{for_nobody, waiting_for};
 ghost use Rattle.waiting_for.specs.Table.{waiting_words};
 
 use agree::lacking::lowest_lacking;
 use records::numbers::room_above;
-use row::table;
+use row::{Mode, Row, table};
 use seats::offices::serves;
 pub use waiting::Waiting;
 
 // Mode none, or no seat of this office in the net view.
-fn for_nobody(state: &[u32]) -> bool
-    requires { Row state.now × ((state_of state.now).own < 16) }
-    ensures { result ≡ for_nobody (state_of state.now) }
+fn for_nobody(row: Row) -> bool
+    ensures { result ≡ for_nobody (held row.entry) }
 {
-    let idle = row::mode(state) == 0;
-    let seated = serves(row::net(state), row::own(state));
+    let idle = row.mode() == Mode::None;
+    let seated = serves(row.net(), row.own());
     idle | !seated
 }
 
 // The answer of one room's row.
-fn in_row(state: &[u32]) -> Waiting
-    requires { sound_row state.now ≡ true }
-    ensures { result ≡ waiting_for (state_of state.now) }
+fn in_row(row: Row) -> Waiting
+    requires { well_formed (held row) ≡ true }
+    ensures { result ≡ waiting_for (held row.entry) }
 {
-    if for_nobody(state) {
+    if for_nobody(row) {
         return Waiting::Nobody;
     }
-    let o = lowest_lacking(state);
-    if o < 16 {
-        return Waiting::For(o);
+    match lowest_lacking(row) {
+        Some(o) => Waiting::For(o),
+        None => Waiting::Met,
     }
-    Waiting::Met
 }
 
 pub fn waiting_for(table: &[u32], room: u8) -> Waiting
@@ -49,5 +48,5 @@ pub fn waiting_for(table: &[u32], room: u8) -> Waiting
     if above {
         return Waiting::NoRoom;
     }
-    in_row(table::row_of(table, room))
+    in_row(table::row_in(table, room))
 }

@@ -6,7 +6,8 @@ use borrow.Author.Tests.{leb-false}
 use Rattle.records.specs.Numbers.{room_above}
 use Rattle.row.specs.Row.{state_of}
 use Rattle.row.specs.Table.{sound_table}
-use Rattle.row.proofs.Tables.{sound_length, sound_rows}
+use Rattle.row.proofs.Low.{sound_well}
+use Rattle.row.proofs.Tables.{sound_rows}
 use Rattle.waiting.specs.Waiting.{waiting_for}
 use Rattle.waiting_for.proofs.Answers.{unsound, no_room, in_room}
 use Rattle.waiting_for.proofs.waiting_for.Goals.{Else-not-sound}
@@ -28,20 +29,21 @@ pub returns-then-above : goal.returns-then-above
 returns-then-above c =
     no_room _ _ (sound (goal.at.returns-then-above c).Else-not-sound) (sym c.room_above-above.ensures ∙ c.if-above.true)
 
-pub row_of-requires : goal.row_of-requires
-row_of-requires c = (
-  sound_length _ (sound (goal.at.row_of-requires c).Else-not-sound),
-  leb-false _ _ (in_table (goal.at.row_of-requires c).Else-above),
+pub row_in-requires : goal.row_in-requires
+row_in-requires c = (
+  sound (goal.at.row_in-requires c).Else-not-sound,
+  leb-false _ _ (in_table (goal.at.row_in-requires c).Else-above),
 )
 
 pub in_row-requires : goal.in_row-requires
 in_row-requires c =
     let room = c.args.room in
-    rw c.row_of.ensures (sound_rows _ (sound (goal.at.in_row-requires c).Else-not-sound) room
-    (leb-false _ _ (in_table (goal.at.in_row-requires c).Else-above)))
+    rw c.row_in.ensures
+    (sound_well _ (sound_rows _ (sound (goal.at.in_row-requires c).Else-not-sound) room
+    (leb-false _ _ (in_table (goal.at.in_row-requires c).Else-above))))
 
 pub returns : goal.returns
 returns c =
     c.in_row.ensures
-    ∙ ap (λ (l : List ℕ). waiting_for (state_of l)) c.row_of.ensures
+    ∙ ap (λ (l : List ℕ). waiting_for (state_of l)) c.row_in.ensures
     ∙ in_room _ _ (sound (goal.at.returns c).Else-not-sound) (in_table (goal.at.returns c).Else-above)

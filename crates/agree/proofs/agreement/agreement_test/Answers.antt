@@ -1,39 +1,44 @@
 use native.Mathlib.Omega.{arith}
-use mathlib.Core.Path.{sym, ◌∙◌}
-use Prim.Native.Nat.{◌+◌}
-use Rattle.rules.specs.Rules.{view, agreement_test}
+use mathlib.Core.Path.{◌≡◌, refl, sym, ◌∙◌}
+use mathlib.Core.Bool.{true}
+use borrow.Author.Rules.{rules}
+use Rattle.records.proofs.Lengths.{view_length_lem}
+use Rattle.rules.specs.Rules.{view, agreed, concluded, agreement_test}
+use Rattle.row.specs.Held.{held_mut}
 use Rattle.event_parts.specs.Bounds.{reach}
-use Rattle.event_parts.specs.Did.{Did}
 use Rattle.event_parts.proofs.Bounding.{start_bound}
-use Rattle.event_parts.proofs.Dids.{did_as, did_none, did_wrote, did_end}
+use Rattle.event_parts.proofs.Dones.{one}
+use Rattle.event_parts.proofs.Dones.{done_as, done_none, done_wrote, one_fits}
 use Rattle.agree.proofs.Agreeing.{agreement_not, agreement_is}
-use Rattle.agree.proofs.agreement.agreement_test.Goals.{After-write_view}
+use Rattle.agree.proofs.agreement.agreement_test.Goals.{Else-not-agreed, After-conclude}
 use Rattle.agree.proofs.agreement.agreement_test.Goals as goal
 
-did : (c : After-write_view)
-    → Did c.args.room agreement_test c.args.s.now c.args.out.now c.args.at
-    c.conclude.new.s c.write_view.new.out
-    (c.args.at + c.write_view.result)
-did c =
-    did_wrote agreement_test (view _) c.conclude.ensures
-    (agreement_is _ _ (sym c.agreed.ensures ∙ c.if-not-agreed.false)
-    c.view_of-view.ensures) c.requires.2 c.write_view.ensures
+met : (c : Else-not-agreed) → agreed (held_mut c.args.row.now) ≡ true
+met c = rw c.get-held.ensures at (sym c.agreed.ensures ∙ c.if-not-agreed.false)
+
+-- what the code makes is what the rule makes
+made : (c : After-conclude) → agreed (held_mut c.args.row.now) ≡ true
+    → one concluded (view c.view_of-view.result) (held_mut c.args.row.now) ≡ agreement_test (held_mut c.args.row.now)
+made c m = agreement_is _ _ m (rw c.get-held.ensures at c.view_of-view.ensures)
 
 pub returns-then-not-agreed : goal.returns-then-not-agreed
 returns-then-not-agreed c =
-    did_as agreement_test (did_none _ _ c.requires.0)
-    (agreement_not _ (sym c.agreed.ensures ∙ c.if-not-agreed.true))
+    done_as agreement_test (done_none _ _)
+    (agreement_not _ (rw c.get-held.ensures at (sym c.agreed.ensures ∙ c.if-not-agreed.true)))
 
 pub view_of-view-requires : goal.view_of-view-requires
 view_of-view-requires c =
-    let b = c.requires in
-    let h = start_bound reach _ b.1 (sym c.agreed.ensures ∙ c.if-not-agreed.false)
-    in
-    (b.0, omega arith)
+    let h = start_bound reach _ c.requires.0 (met (goal.at.view_of-view-requires c).Else-not-agreed) in
+    rw c.get-held.ensures (omega arith)
 
-pub overflow_add-result : goal.overflow_add-result
-overflow_add-result c =
-    let e = did_end (did (goal.at.overflow_add-result c).After-write_view) c.requires.2 in omega arith
+pub write-requires : goal.write-requires
+write-requires c =
+    let v = c.view_of-view.result in
+    one_fits agreement_test concluded (view v) c.args.row.now c.args.out.now
+    (made (goal.at.write-requires c).After-conclude (met (goal.at.write-requires c).Else-not-agreed))
+    (view_length_lem 0 v (search rules)) c.requires.1
 
 pub returns : goal.returns
-returns c = did (goal.at.returns c).After-write_view
+returns c =
+    done_wrote agreement_test (view _) c.conclude.ensures
+    (made (goal.at.returns c).After-conclude (met (goal.at.returns c).Else-not-agreed)) refl c.write.ensures

@@ -1,4 +1,5 @@
 use mathlib.Core.Path.{sym, ◌∙◌}
+use Rattle.row.proofs.ModeTests.{tests_slow}
 use Rattle.agree.proofs.Looking.{not_there, there}
 use Rattle.agree.proofs.lacking.disagrees.Goals as goal
 
@@ -9,9 +10,13 @@ returns-then-not-stored_present c =
 pub returns : goal.returns
 returns c =
     rw (
-      c.stored_number.ensures,
-      c.equals.ensures,
       c.stored_kind.ensures,
-      c.stored_members-members.ensures,
+      c.from-2.ensures,
+      c.from.ensures,
+      c.ne.ensures,
+      c.stored_members.ensures,
+      c.eq.ensures,
+      tests_slow c.args.mode,
+      c.stored_number.ensures,
     )
     (there _ _ _ _ (sym c.stored_present.ensures ∙ c.if-not-stored_present.false))

@@ -9,10 +9,10 @@ use Rattle.agree.proofs.new_view.view_of.Goals as goal
 
 pub overflow_add-result : goal.overflow_add-result
 overflow_add-result c =
-    let s = state_of c.args.s.now in
+    let s = state_of c.args.row.words.now in
     let e : c.lay_starts-laid.result.largest ≡ largest 16 (start_of s) =
     ap (λ (r : Laid). r.largest) c.lay_starts-laid.ensures ∙ laid_largest s 16 (omega arith) in
-    let h = c.requires.1 in
+    let h = c.requires in
     omega arith
 
 pub returns : goal.returns

@@ -1,8 +1,8 @@
-use Rattle.std.proofs.Common.{◌≤◌, length, ◌-◌}
+use Rattle.std.proofs.Common.{◌≤◌, length}
 use Rattle.buffers.proofs.output.flush.Given as goal
 
-abbrev pub invariant-loop-done : goal.invariant-loop-done
-invariant-loop-done g l = l.done ≤ length l.part
+abbrev pub invariant-loop-put : goal.invariant-loop-put
+invariant-loop-put g l = length l.rest ≤ length l.part
 
-abbrev pub decreases-loop-done : goal.decreases-loop-done
-decreases-loop-done g l = length l.part - l.done
+abbrev pub decreases-loop-put : goal.decreases-loop-put
+decreases-loop-put g l = length l.rest

@@ -1,5 +1,5 @@
-use Rattle.buffers.proofs.Room.{due_few}
 use native.Mathlib.Omega.{arith}
+use Rattle.buffers.proofs.Room.{due_few}
 use Rattle.buffers.proofs.ProgressLaws.{emptied_none, emptied_some}
 use Rattle.buffers.proofs.progress.emptied.Goals as goal
 
@@ -17,6 +17,6 @@ to_front-requires g c =
 
 pub returns : goal.returns
 returns g c =
-    emptied_some c.args.p c.args.output.now c.flush-sent.result c.requires c.has_room.ensures c.if-has_room.false
+    emptied_some c.args.p.now c.args.output.now c.flush-sent.result c.requires c.has_room.ensures c.if-has_room.false
     (due_few c.args.output.now c.requires c.due.ensures c.flush-sent.ensures)
     c.to_front.ensures

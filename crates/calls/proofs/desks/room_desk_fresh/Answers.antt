@@ -1,18 +1,10 @@
 use mathlib.Core.Path.{sym, ◌∙◌}
-use borrow.Author.Tests.{eqb-true}
-use Rattle.calls.proofs.InDeskWords.{fresh_other, fresh_made}
+use Rattle.calls.proofs.InDeskWords.{default_left, fresh_made}
 use Rattle.calls.proofs.desks.room_desk_fresh.Goals as goal
-
-pub returns-then-not-is_desk : goal.returns-then-not-is_desk
-returns-then-not-is_desk c = fresh_other _ (sym c.is_desk.ensures ∙ c.if-not-is_desk.true) _
-
-pub put_in_every_room-requires : goal.put_in_every_room-requires
-put_in_every_room-requires c =
-    let whole = sym c.is_desk.ensures ∙ c.if-not-is_desk.false in
-    eqb-true _ _ whole
 
 pub returns : goal.returns
 returns c =
-    let whole = sym c.is_desk.ensures ∙ c.if-not-is_desk.false in
-    fresh_made _ whole _ c.fresh_seat-made.result _ c.fresh_seat-made.ensures
+    let z = c.default.ensures in
+    fresh_made _ (sym c.if-not-is_desk.false ∙ c.is_desk.ensures) _ _ c.fresh_seat-made.ensures _
+    (c.unwrap_or.ensures ∙ default_left c.fresh_seat-made.result c.default.result z.0 z.1.0 z.1.1.0 z.1.1.1) _ c.refusal_number.ensures _
     c.put_in_every_room.ensures

@@ -1,24 +1,34 @@
-use native.Mathlib.Omega.{arith}
-use Prim.Native.Nat.{◌+◌}
-use Rattle.event_parts.specs.Did.{Did}
-use Rattle.event_parts.proofs.Dids.{did_wrote, did_end}
-use Rattle.event_parts.proofs.Made.{opens_is}
+use mathlib.Core.Path.{◌≡◌, refl}
+use Rattle.records.specs.declared.Notice.{Notice}
+use Rattle.records.proofs.Lengths.{notice_length_lem}
+use Rattle.rules.specs.State.{with_start}
 use Rattle.rules.specs.Rules.{notice, opens}
-use Rattle.event_parts.proofs.opening.opens.Goals.{After-write_notice}
+use Rattle.row.specs.Held.{held_mut}
+use Rattle.event_parts.proofs.Dones.{one}
+use Rattle.event_parts.proofs.Dones.{done_wrote, one_fits}
+use Rattle.event_parts.proofs.Made.{opens_is}
+use Rattle.event_parts.proofs.opening.opens.Goals.{After-set_start}
 use Rattle.event_parts.proofs.opening.opens.Goals as goal
 
-did : (c : After-write_notice)
-    → Did c.args.room opens c.args.s.now c.args.out.now c.args.at c.set_start.new.s
-    c.write_notice.new.out (c.args.at + c.write_notice.result)
-did c =
-    did_wrote opens (notice _) c.set_start.ensures
-    (opens_is _ _ _ (rw (← c.view_number.ensures, ← c.start.ensures) c.larger-start.ensures)
-    c.net-members.ensures)
-    c.requires.2 c.write_notice.ensures
+abbrev noted : After-set_start → Notice
+noted c = record { start = c.max-start.result; members = c.net-members.result }
 
-pub overflow_add-result : goal.overflow_add-result
-overflow_add-result c =
-    let e = did_end (did (goal.at.overflow_add-result c).After-write_notice) c.requires.2 in omega arith
+-- what the code makes is what the rule makes
+made : (c : After-set_start)
+    → one (with_start c.max-start.result) (notice (noted c)) (held_mut c.args.row.now)
+    ≡ opens (held_mut c.args.row.now)
+made c =
+    let e = c.get-held.ensures in
+    opens_is _ _ _
+    (rw (← (rw e at c.view_number.ensures), ← (rw e at c.start.ensures)) c.max-start.ensures)
+    (rw e at c.net-members.ensures)
+
+pub write-requires : goal.write-requires
+write-requires c =
+    let n = (goal.at.write-requires c).After-set_start in
+    one_fits opens (with_start n.max-start.result) _ c.args.row.now c.args.out.now (made n)
+    (notice_length_lem 0 (noted n)) c.requires.1
 
 pub returns : goal.returns
-returns c = did (goal.at.returns c).After-write_notice
+returns c =
+    done_wrote opens _ c.set_start.ensures (made (goal.at.returns c).After-set_start) refl c.write.ensures

@@ -7,12 +7,12 @@ use Rattle.propose.proofs.fast.next_number.Goals as goal
 
 pub overflow_add-result : goal.overflow_add-result
 overflow_add-result c =
-    let s = state_of c.args.s.now in
-    let h = next_bound reach s c.requires.1 in
+    let s = state_of c.args.row.words.now in
+    let h = next_bound reach s c.requires in
     let e = next_is s in
     let n = c.number.ensures in
     let l = c.largest_stored.ensures in
     omega arith
 
 pub returns : goal.returns
-returns c = rw (c.larger.ensures, c.number.ensures, c.largest_stored.ensures) (next_is _)
+returns c = rw (c.max.ensures, c.number.ensures, c.largest_stored.ensures) (next_is _)

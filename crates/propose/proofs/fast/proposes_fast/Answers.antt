@@ -1,14 +1,17 @@
 use native.Mathlib.Omega.{arith}
-use mathlib.Core.Path.{◌≡◌, sym, ap, ◌∙◌}
-use Prim.Native.Nat.{ℕ, ◌+◌}
+use mathlib.Core.Path.{◌≡◌, refl, sym, ap, ◌∙◌}
+use Prim.Native.Nat.{ℕ}
+use borrow.Author.Rules.{rules}
+use Rattle.records.proofs.Lengths.{proposal_length_lem}
 use Rattle.records.specs.declared.Proposal.{Proposal}
 use Rattle.rules.specs.State.{State, Fast}
-use Rattle.rules.specs.Rules.{proposal, next_number, own_proposal, proposes_fast}
+use Rattle.rules.specs.Rules.{proposal, next_number, own_proposal, proposed, proposes_fast}
 use Rattle.rule_laws.proofs.Recipients.{own_seated}
-use Rattle.event_parts.specs.Did.{Did}
-use Rattle.event_parts.proofs.Dids.{did_as, did_quiet, did_wrote, did_end}
+use Rattle.row.specs.Held.{held_mut}
+use Rattle.event_parts.proofs.Dones.{one}
+use Rattle.event_parts.proofs.Dones.{done_as, done_quiet, done_wrote, one_fits}
 use Rattle.event_parts.proofs.Made.{own_same, own_sender, fast_alone, fast_written}
-use Rattle.propose.proofs.fast.proposes_fast.Goals.{After-write_proposal}
+use Rattle.propose.proofs.fast.proposes_fast.Goals.{After-own_proposal-p, Else-not-has_recipient}
 use Rattle.propose.proofs.fast.proposes_fast.Goals as goal
 
 -- the proposal is the one that the rules make
@@ -16,41 +19,43 @@ made : (s : State) (p : Proposal) (n : ℕ) → p ≡ own_proposal Fast n s → 
     → p ≡ own_proposal Fast (next_number s) s
 made s p n e f = e ∙ ap (λ (k : ℕ). own_proposal Fast k s) f
 
-did : (c : After-write_proposal)
-    → Did c.args.room proposes_fast c.args.s.now c.args.out.now c.args.at
-    c.keep_own.new.s c.write_proposal.new.out
-    (c.args.at + c.write_proposal.result)
-did c =
-    did_wrote proposes_fast (proposal _) c.keep_own.ensures
-    (fast_written _ _ (made _ _ _ c.own_proposal-p.ensures c.next_number.ensures)
-    (sym c.has_recipient.ensures ∙ c.if-not-has_recipient.false)) c.requires.2
-    c.write_proposal.ensures
+is : (c : After-own_proposal-p)
+    → c.own_proposal-p.result ≡ own_proposal Fast (next_number (held_mut c.args.row.now)) (held_mut c.args.row.now)
+is c =
+    let e = c.get-held.ensures in
+    made _ _ _ (rw e at c.own_proposal-p.ensures) (rw e at c.next_number.ensures)
 
 pub keep_own-requires : goal.keep_own-requires
-keep_own-requires c =
-    let b = c.requires in
-    record {
-      row = (b.0, b.1.own, omega arith);
-      p_value = own_same _ _ _ _ (made _ _ _ c.own_proposal-p.ensures c.next_number.ensures);
-    }
+keep_own-requires c = own_same _ _ _ _ (is (goal.at.keep_own-requires c).After-own_proposal-p)
 
 pub has_recipient-requires : goal.has_recipient-requires
 has_recipient-requires c =
-    let m = made _ _ _ c.own_proposal-p.ensures c.next_number.ensures in
+    let m = is (goal.at.has_recipient-requires c).After-own_proposal-p in
     let e = own_sender _ _ _ _ m in
-    let b = c.requires in
-    let l = b.1.own in
-    (omega arith, own_seated _ _ _ _ m b.3)
+    let l = c.args.row.now.office in
+    (omega arith, own_seated _ _ _ _ m c.requires.2)
 
 pub returns-then-not-has_recipient : goal.returns-then-not-has_recipient
 returns-then-not-has_recipient c =
-    did_as proposes_fast (did_quiet _ _ c.keep_own.ensures)
-    (fast_alone _ _ (made _ _ _ c.own_proposal-p.ensures c.next_number.ensures)
+    done_as proposes_fast (done_quiet _ c.keep_own.ensures)
+    (fast_alone _ _ (is (goal.at.returns-then-not-has_recipient c).After-own_proposal-p)
     (sym c.has_recipient.ensures ∙ c.if-not-has_recipient.true))
 
-pub overflow_add-result : goal.overflow_add-result
-overflow_add-result c =
-    let e = did_end (did (goal.at.overflow_add-result c).After-write_proposal) c.requires.2 in omega arith
+written : (c : Else-not-has_recipient)
+    → c.own_proposal-p.result ≡ own_proposal Fast (next_number (held_mut c.args.row.now)) (held_mut c.args.row.now)
+    → one (proposed Fast c.own_proposal-p.result.number) (proposal c.own_proposal-p.result) (held_mut c.args.row.now)
+    ≡ proposes_fast (held_mut c.args.row.now)
+written c m = fast_written _ _ m (sym c.has_recipient.ensures ∙ c.if-not-has_recipient.false)
+
+pub write-requires : goal.write-requires
+write-requires c =
+    let p = c.own_proposal-p.result in
+    one_fits proposes_fast (proposed Fast p.number) (proposal p) c.args.row.now c.args.out.now
+    (written (goal.at.write-requires c).Else-not-has_recipient (is (goal.at.write-requires c).After-own_proposal-p))
+    (proposal_length_lem 0 p (search rules)) c.requires.1
 
 pub returns : goal.returns
-returns c = did (goal.at.returns c).After-write_proposal
+returns c =
+    done_wrote proposes_fast (proposal _) c.keep_own.ensures
+    (written (goal.at.returns c).Else-not-has_recipient (is (goal.at.returns c).After-own_proposal-p)) refl
+    c.write.ensures

@@ -1,4 +1,3 @@
-use Rattle.row.proofs.Parts.{mode_word_lem}
 use Rattle.rules.specs.Rules.{own_proposal}
 use Rattle.propose.proofs.own_proposals.own_proposal.Goals as goal
 
@@ -6,7 +5,7 @@ pub returns : goal.returns
 unfolding own_proposal
 returns c =
     rw (
-      mode_word_lem _ c.requires.2,
+      c.from.ensures,
       c.used_within.ensures,
       c.start.ensures,
       c.own.ensures,

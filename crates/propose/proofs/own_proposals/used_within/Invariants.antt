@@ -1,4 +1,3 @@
-use Prim.Native.Nat.{◌≤◌, ◌-◌}
 use Rattle.laws.specs.Upd.{ifb}
 use Rattle.seats.specs.Offices.{serves}
 use Rattle.rules.specs.State.{used_at}
@@ -8,8 +7,4 @@ use Rattle.propose.proofs.own_proposals.used_within.Given as goal
 
 abbrev pub invariant-loop-o : goal.invariant-loop-o
 invariant-loop-o l =
-    (l.o ≤ 16) × Filling 16 0 (λ k. ifb (serves l.net.bits k) (used_at (state_of l.s) k) 0) l.o l.used
-
-abbrev pub decreases-loop-o : goal.decreases-loop-o
-decreases-loop-o l =
-    16 - l.o
+    Filling 16 0 (λ k. ifb (serves l.net.bits k) (used_at (state_of l.row.words.now) k) 0) l.o l.used

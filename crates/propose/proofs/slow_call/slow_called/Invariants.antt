@@ -5,10 +5,10 @@ use Rattle.row.specs.Row.{state_of, presence}
 use Rattle.propose.proofs.Calls.{calls_in}
 use Rattle.propose.proofs.slow_call.slow_called.Given as goal
 
-abbrev pub invariant-loop-left : goal.invariant-loop-left
-invariant-loop-left l =
-    Seen (λ o. calls_in (state_of l.s) o ≡ false) (presence (state_of l.s)) l.left
+abbrev pub invariant-loop-o : goal.invariant-loop-o
+invariant-loop-o l =
+    Seen (λ o. calls_in (state_of l.row.words.now) o ≡ false) (presence (state_of l.row.words.now)) l.left
 
-abbrev pub decreases-loop-left : goal.decreases-loop-left
-decreases-loop-left l =
+abbrev pub decreases-loop-o : goal.decreases-loop-o
+decreases-loop-o l =
     l.left

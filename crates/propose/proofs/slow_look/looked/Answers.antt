@@ -9,14 +9,15 @@ returns-then-not-stored_present c =
 pub returns : goal.returns
 returns c =
     rw (
-      c.larger-2.ensures,
+      c.max-2.ensures,
       c.counted-2.ensures,
       c.serves.ensures,
-      c.larger.ensures,
+      c.max.ensures,
       c.counted.ensures,
       c.stored_kind.ensures,
-      c.equals.ensures,
-      c.stored_members-members.ensures,
+      c.from.ensures,
+      c.eq.ensures,
+      c.stored_members.ensures,
       c.stored_number-n.ensures,
     )
     (looked_there _ _ _ _ _ _ (sym c.stored_present.ensures ∙ c.if-not-stored_present.false))

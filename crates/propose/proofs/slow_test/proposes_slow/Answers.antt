@@ -1,15 +1,15 @@
-use native.Mathlib.Omega.{arith}
-use mathlib.Core.Path.{◌≡◌, ap, ◌∙◌}
-use Prim.Native.Nat.{ℕ, ◌+◌}
+use mathlib.Core.Path.{◌≡◌, refl, ap, ◌∙◌}
+use Prim.Native.Nat.{ℕ}
+use borrow.Author.Rules.{rules}
+use Rattle.records.proofs.Lengths.{proposal_length_lem}
 use Rattle.records.specs.declared.Proposal.{Proposal}
-use Rattle.row.specs.Row.{state_of}
 use Rattle.rules.specs.State.{State, Slow}
-use Rattle.rules.specs.Rules.{proposal, slow_number, own_proposal, proposes_slow}
-use Rattle.event_parts.specs.Did.{Did}
-use Rattle.event_parts.proofs.Dids.{did_wrote, did_end}
+use Rattle.rules.specs.Rules.{proposal, slow_number, own_proposal, proposed, proposes_slow}
+use Rattle.row.specs.Held.{held_mut}
+use Rattle.event_parts.proofs.Dones.{done_wrote, one_fits}
 use Rattle.event_parts.proofs.Made.{own_same, slow_written}
 use Rattle.propose.proofs.Looks.{number_found, top_fits}
-use Rattle.propose.proofs.slow_test.proposes_slow.Goals.{After-write_proposal}
+use Rattle.propose.proofs.slow_test.proposes_slow.Goals.{After-own_proposal-p}
 use Rattle.propose.proofs.slow_test.proposes_slow.Goals as goal
 
 -- the proposal is the one that the rules make
@@ -17,32 +17,30 @@ made : (s : State) (p : Proposal) (n : ℕ) → p ≡ own_proposal Slow n s → 
     → p ≡ own_proposal Slow (slow_number s) s
 made s p n e f = e ∙ ap (λ (k : ℕ). own_proposal Slow k s) f
 
-did : (c : After-write_proposal)
-    → Did c.args.room proposes_slow c.args.s.now c.args.out.now c.args.at
-    c.keep_own.new.s c.write_proposal.new.out
-    (c.args.at + c.write_proposal.result)
-did c =
-    did_wrote proposes_slow (proposal _) c.keep_own.ensures (slow_written _ _ (made _ _ _ c.own_proposal-p.ensures
-    (c.slow_number-n.ensures ∙ number_found _ _ _ c.number.ensures c.look_at_all-a.ensures)))
-    c.requires.2 c.write_proposal.ensures
+is : (c : After-own_proposal-p)
+    → c.own_proposal-p.result ≡ own_proposal Slow (slow_number (held_mut c.args.row.now)) (held_mut c.args.row.now)
+is c =
+    let e = c.get-held.ensures in
+    made _ _ _ (rw e at c.own_proposal-p.ensures)
+    (c.slow_number-n.ensures
+    ∙ number_found _ _ _ (rw e at c.number.ensures) (rw e at c.look_at_all.ensures))
 
 pub slow_number-n-requires : goal.slow_number-n-requires
 slow_number-n-requires c =
-    top_fits (state_of c.args.s.now) _ _ c.requires.1 c.number.ensures
-    c.look_at_all-a.ensures
+    let e = c.get-held.ensures in
+    top_fits _ _ _ c.requires.0 (rw e at c.number.ensures) (rw e at c.look_at_all.ensures)
 
 pub keep_own-requires : goal.keep_own-requires
-keep_own-requires c =
-    let b = c.requires in
-    let n = c.slow_number-n.ensures ∙ number_found _ _ _ c.number.ensures c.look_at_all-a.ensures in
-    record {
-      row = (b.0, b.1.own, omega arith);
-      p_value = own_same _ _ _ _ (made _ _ _ c.own_proposal-p.ensures n);
-    }
+keep_own-requires c = own_same _ _ _ _ (is (goal.at.keep_own-requires c).After-own_proposal-p)
 
-pub overflow_add-result : goal.overflow_add-result
-overflow_add-result c =
-    let e = did_end (did (goal.at.overflow_add-result c).After-write_proposal) c.requires.2 in omega arith
+pub write-requires : goal.write-requires
+write-requires c =
+    let p = c.own_proposal-p.result in
+    one_fits proposes_slow (proposed Slow p.number) (proposal p) c.args.row.now c.args.out.now
+    (slow_written _ _ (is (goal.at.write-requires c).After-own_proposal-p)) (proposal_length_lem 0 p (search rules))
+    c.requires.1
 
 pub returns : goal.returns
-returns c = did (goal.at.returns c).After-write_proposal
+returns c =
+    done_wrote proposes_slow (proposal _) c.keep_own.ensures
+    (slow_written _ _ (is (goal.at.returns c).After-own_proposal-p)) refl c.write.ensures

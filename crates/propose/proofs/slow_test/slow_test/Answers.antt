@@ -1,78 +1,73 @@
 use native.Mathlib.Omega.{arith}
-use mathlib.Core.Path.{◌≡◌, sym, ap, ◌∙◌}
 use Prim.Native.Nat.{◌+◌}
-use Rattle.row.specs.Row.{state_of}
-use Rattle.rules.specs.State.{None, kind_of}
-use Rattle.rules.specs.Rules.{and_then, opens, proposes_slow, slow_test}
+use mathlib.Core.Path.{◌≡◌, sym, ◌∙◌}
+use Rattle.rules.specs.State.{None}
+use mathlib.Core.Bool.{false}
+use Rattle.row.specs.Held.{held_mut}
+use Rattle.row.proofs.ModeTests.{reads_none}
+use Rattle.rules.specs.Rules.{is_none, and_then, opens, proposes_slow, slow_test}
 use Rattle.event_parts.specs.Bounds.{early, reach}
-use Rattle.event_parts.specs.Did.{Fits}
+use Rattle.event_parts.specs.Done.{HasRoom}
 use Rattle.event_parts.proofs.Bounding.{bounded_le, opens_bounded}
-use Rattle.event_parts.proofs.Dids.{did_as, did_then, did_none, fits_as, fits_first, fits_second}
-use Rattle.rule_laws.proofs.Modes.{kind_none, is_busy}
+use Rattle.event_parts.proofs.Dones.{room_as}
+use Rattle.event_parts.proofs.Dones.{done_as, done_then, done_none, room_first, room_second}
+use Rattle.rule_laws.proofs.Modes.{none_is, busy_is}
 use Rattle.propose.proofs.SlowCases.{slow_first, slow_made, slow_quiet}
-use Rattle.propose.proofs.slow_test.slow_test.Goals.{Then-mode-eq0, Else-mode-eq0}
+use Rattle.propose.proofs.slow_test.slow_test.Goals.{Then-eq, Else-eq}
 use Rattle.propose.proofs.slow_test.slow_test.Goals as goal
 
 -- no agreement is under way
-idle : (c : Then-mode-eq0) → (state_of c.args.s.now).mode ≡ None
-idle c = kind_none _ (sym c.mode.ensures ∙ c.if-mode-eq0.true)
+idle : (c : Then-eq) → (held_mut c.args.row.now).mode ≡ None
+idle c =
+    none_is _ (sym (reads_none _ (rw c.get.ensures at c.mode.ensures) c.eq.ensures) ∙ c.if-eq.true)
 
-fits : (c : Then-mode-eq0)
-    → Fits (λ s. and_then (opens s) proposes_slow) c.args.s.now c.args.out.now c.args.at
-fits c =
-    let a = c.args in
-    fits_as (λ s. and_then (opens s) proposes_slow) slow_test a.s.now a.out.now a.at (slow_first _ (idle c))
-    c.requires.2
+room : (c : Then-eq) → HasRoom (λ s. and_then (opens s) proposes_slow) c.args.row.now c.args.out.now
+room c =
+    room_as (λ s. and_then (opens s) proposes_slow) slow_test c.args.row.now c.args.out.now (slow_first _ (idle c))
+    c.requires.1
 
 -- one is
-busy : (c : Else-mode-eq0) → (state_of c.args.s.now).mode ≡ None → ⊥
-busy c e = c.if-mode-eq0.false (c.mode.ensures ∙ ap kind_of e)
+busy : (c : Else-eq) → is_none (held_mut c.args.row.now).mode ≡ false
+busy c = sym (reads_none _ (rw c.get.ensures at c.mode.ensures) c.eq.ensures) ∙ c.if-eq.false
 
-pub opens-next-requires : goal.opens-next-requires
-opens-next-requires c =
-    let a = c.args in (
-      c.requires.0,
-      bounded_le early _ c.requires.1 reach (omega arith),
-      fits_first opens proposes_slow a.s.now a.out.now a.at (fits (goal.at.opens-next-requires c).Then-mode-eq0),
-    )
+pub opens-requires : goal.opens-requires
+opens-requires c = (
+  bounded_le early _ c.requires.0 reach (omega arith),
+  room_first opens proposes_slow c.args.row.now c.args.out.now (room (goal.at.opens-requires c).Then-eq),
+)
 
 pub proposes_slow-requires : goal.proposes_slow-requires
 proposes_slow-requires c =
-    let a = c.args in
-    let d = c.opens-next.ensures in (
-      d.row,
-      rw d.is (bounded_le (early + 1) _ (opens_bounded early _ c.requires.1) reach (omega arith)),
-      fits_second opens proposes_slow a.s.now a.out.now a.at
-          (fits (goal.at.proposes_slow-requires c).Then-mode-eq0) _ _ _ d,
+    let d = c.opens.ensures in (
+      rw d.did.is (bounded_le (early + 1) _ (opens_bounded early _ c.requires.0) reach (omega arith)),
+      room_second opens proposes_slow c.args.row.now c.args.out.now (room (goal.at.proposes_slow-requires c).Then-eq) d,
     )
 
-pub returns-then-mode-eq0 : goal.returns-then-mode-eq0
-returns-then-mode-eq0 c =
-    did_as slow_test (did_then c.opens-next.ensures c.proposes_slow.ensures)
-    (slow_first _ (idle (goal.at.returns-then-mode-eq0 c).Then-mode-eq0))
+pub returns-then-eq : goal.returns-then-eq
+returns-then-eq c =
+    done_as slow_test (done_then c.opens.ensures c.proposes_slow.ensures)
+    (slow_first _ (idle (goal.at.returns-then-eq c).Then-eq))
 
 pub slow_called-requires : goal.slow_called-requires
 slow_called-requires c =
-    let b = c.requires in
-    (b.0, b.1.own, is_busy _ (busy (goal.at.slow_called-requires c).Else-mode-eq0))
+    rw c.get-2.ensures (busy (goal.at.slow_called-requires c).Else-eq)
 
 pub proposes_slow-requires-then-slow_called : goal.proposes_slow-requires-then-slow_called
 proposes_slow-requires-then-slow_called c =
-    let a = c.args in
-    let e = slow_made (state_of a.s.now) (busy (goal.at.proposes_slow-requires-then-slow_called c).Else-mode-eq0)
-    (sym c.slow_called.ensures ∙ c.if-slow_called.true) in (
-      c.requires.0,
-      bounded_le early _ c.requires.1 reach (omega arith),
-      fits_as proposes_slow slow_test a.s.now a.out.now a.at e c.requires.2,
+    let e = slow_made (held_mut c.args.row.now)
+    (busy_is _ (busy (goal.at.proposes_slow-requires-then-slow_called c).Else-eq))
+    (rw c.get-2.ensures at (sym c.slow_called.ensures ∙ c.if-slow_called.true)) in (
+      bounded_le early _ c.requires.0 reach (omega arith),
+      room_as proposes_slow slow_test c.args.row.now c.args.out.now e c.requires.1,
     )
 
 pub returns-then-slow_called : goal.returns-then-slow_called
 returns-then-slow_called c =
-    did_as slow_test c.proposes_slow-then-slow_called.ensures
-    (slow_made _ (busy (goal.at.returns-then-slow_called c).Else-mode-eq0)
-    (sym c.slow_called.ensures ∙ c.if-slow_called.true))
+    done_as slow_test c.proposes_slow-then-slow_called.ensures
+    (slow_made _ (busy_is _ (busy (goal.at.returns-then-slow_called c).Else-eq))
+    (rw c.get-2.ensures at (sym c.slow_called.ensures ∙ c.if-slow_called.true)))
 
-pub returns : goal.returns
-returns c =
-    did_as slow_test (did_none _ _ c.requires.0)
-    (slow_quiet _ (sym c.slow_called.ensures ∙ c.if-slow_called.false))
+pub returns-else-slow_called : goal.returns-else-slow_called
+returns-else-slow_called c =
+    done_as slow_test (done_none _ _)
+    (slow_quiet _ (rw c.get-2.ensures at (sym c.slow_called.ensures ∙ c.if-slow_called.false)))

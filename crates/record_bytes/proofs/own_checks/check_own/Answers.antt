@@ -1,30 +1,15 @@
-use borrow.Author.Tests.{eq-eqb, ne_eqb}
-use native.Mathlib.Omega.{arith}
-use Rattle.records.specs.Layout.{mark_of, value_of, check_for, check_own}
+use mathlib.Core.Path.{◌∙◌}
+use Rattle.std.proofs.lemmas.Bool.{not-true, not-false}
+use Rattle.record_bytes.proofs.OwnMark.{own_mark, other_mark}
 use Rattle.record_bytes.proofs.own_checks.check_own.Goals as goal
 
-pub returns-then-mark_of-get16 : goal.returns-then-mark_of-get16
-unfolding check_own check_for
-returns-then-mark_of-get16 c =
-    let s = c.args in
-    rw (ne_eqb (mark_of s.bytes.now) (value_of s.mark.now) (λ e. omega arith))
+pub returns-then-ne : goal.returns-then-ne
+returns-then-ne g c =
+    other_mark g.R.Record.MARK g.R.Record.LENGTH c.from_be_bytes.result c.args.bytes.now (cc) c.mark_value.result
+    c.mark_value.ensures (not-true _ (cc)) g.met.R.Record.marked
 
-pub returns-then-bytes-n : goal.returns-then-bytes-n
-unfolding check_own check_for
-returns-then-bytes-n c =
-    let s = c.args in
-    rw (
-      eq-eqb (mark_of s.bytes.now) (value_of s.mark.now) (omega arith),
-      ne_eqb s.n 0 (λ e. omega arith),
-      eq-eqb _ _ c.if-bytes-n.true,
-    )
-
-pub returns-else-bytes-n : goal.returns-else-bytes-n
-unfolding check_own check_for
-returns-else-bytes-n c =
-    let s = c.args in
-    rw (
-      eq-eqb (mark_of s.bytes.now) (value_of s.mark.now) (omega arith),
-      ne_eqb s.n 0 (λ e. omega arith),
-      ne_eqb _ _ c.if-bytes-n.false,
-    )
+pub returns : goal.returns
+returns g c =
+    c.check_length.ensures
+    ∙ rw c.LENGTH.ensures (own_mark g.R.Record.MARK g.R.Record.LENGTH c.from_be_bytes.result c.args.bytes.now (cc)
+    c.mark_value.result c.mark_value.ensures (not-false _ (cc)) g.met.R.Record.some)

@@ -1,23 +1,18 @@
-use mathlib.Core.Path.{◌∙◌}
-use borrow.Author.Tests.{eq-eqb}
+use mathlib.Core.Path.{refl, sym, ◌∙◌}
+use borrow.Author.Tests.{eqb-false}
 use Rattle.records.specs.Run.{run_check}
-use Rattle.records.proofs.RunLaws.{ends_report, ends_proposal, ends_other}
+use Rattle.records.proofs.RunLaws.{ends_kind, ends_other}
 use Rattle.records.proofs.run.run_check.Goals as goal
 
-pub returns-then-run-eq0 : goal.returns-then-run-eq0
+pub returns-then-is_empty : goal.returns-then-is_empty
 unfolding run_check
-returns-then-run-eq0 c = simp (eq-eqb _ _ c.if-run-eq0.true)
+returns-then-is_empty c = rw (sym c.is_empty.ensures ∙ c.if-is_empty.true) refl
 
-pub returns-in-Report : goal.returns-in-Report
-returns-in-Report c =
+pub returns-in_default : goal.returns-in_default
+returns-in_default c =
+    ends_other _ (eqb-false _ 0 (sym c.is_empty.ensures ∙ c.if-is_empty.false)) c.in_default.ensures
+
+pub returns : goal.returns
+returns c =
     c.too_few.ensures
-    ∙ ends_report _ c.form_of-f.result c.if-run-eq0.false c.form_of-f.ensures c.in-Report.is
-
-pub returns-in-Proposal : goal.returns-in-Proposal
-returns-in-Proposal c =
-    c.too_few-in-Proposal.ensures
-    ∙ ends_proposal _ c.form_of-f.result c.if-run-eq0.false c.form_of-f.ensures
-    c.in-Proposal.is
-
-pub returns-in-Other : goal.returns-in-Other
-returns-in-Other c = ends_other _ c.form_of-f.result c.if-run-eq0.false c.form_of-f.ensures c.in-Other.is
+    ∙ ends_kind _ (eqb-false _ 0 (sym c.is_empty.ensures ∙ c.if-is_empty.false)) _ c.in-Some.ensures _ c.length.ensures

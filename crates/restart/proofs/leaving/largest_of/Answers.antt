@@ -1,20 +1,16 @@
-use mathlib.Core.Path.{◌≡◌, refl, ◌∙◌}
+use mathlib.Core.Path.{◌≡◌, ◌∙◌}
 use native.Mathlib.Omega.{arith}
-use Rattle.laws.specs.Fin.{largest}
-use Rattle.laws.proofs.Loops.{largest_one}
+use borrow.Author.Rules.{rules}
+use lib.ListN.{length}
+use Rattle.std.proofs.lemmas.Grind.{common_steps}
+use Rattle.restart.proofs.Largest.{top, top_bounds, top_least, top_largest}
 use Rattle.restart.proofs.leaving.largest_of.Goals as goal
-
-pub loop-o-init : goal.loop-o-init
-unfolding largest
-loop-o-init c = (omega arith, refl)
-
-pub loop-o-preserved : goal.loop-o-preserved
-loop-o-preserved c =
-    let l = c.loop-o in
-    (omega arith, c.larger-top.ensures ∙ rw (l.invariant.1, largest_one))
 
 pub returns : goal.returns
 returns c =
-    let l = c.loop-o in
-    let e : l.o ≡ 16 = omega arith in
-    rw e at l.invariant.1
+    let l = c.args.numbers.now in
+    let bounds = top_bounds l in
+    let least = top_least l c.unwrap_or.result (search rules) in
+    let is : c.unwrap_or.result ≡ top l = grind (arith, common_steps, bounds, least) in
+    let size : length l ≡ 16 = search rules in
+    is ∙ top_largest l 16 size (omega arith)

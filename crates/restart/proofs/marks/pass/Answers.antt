@@ -1,41 +1,42 @@
-use Prim.Native.Nat.{◌+◌, ◌-◌, ◌*◌}
-use mathlib.Core.Path.{◌≡◌, refl}
+use mathlib.Core.Path.{◌≡◌, ap, ◌∙◌}
 use native.Mathlib.Omega.{arith}
-use lib.ListN.{take, drop}
+use mathlib.Core.List.{◌++◌}
+use lib.ListN.{length}
+use Rattle.std.specs.Slice.Iter.{chunks_exact_rest, chunks_exact_size}
 use Rattle.records.specs.Layout.{high_length}
-use Rattle.record_bytes.specs.highs.Read.{read_high}
-use Rattle.restart.proofs.Passing.{going_none, going_next, pass_bad, pass_end}
-use Rattle.restart.proofs.marks.pass.Goals.{After-read_high-read}
+use Rattle.restart.specs.Marks.{marks_as}
+use Rattle.restart.proofs.Passing.{Going, going_none, going_next, pass_bad, pass_end}
+use Rattle.restart.proofs.marks.pass.Goals.{After-high_after}
 use Rattle.restart.proofs.marks.pass.Goals as goal
 
--- the record at hand, as it is read
-read : (c : After-read_high-read)
-    → c.read_high-read.result
-    ≡ read_high (take high_length (drop (c.loop-k.k * high_length) c.args.file.now))
-read c =
-    let k = c.loop-k.k in
-    let e : k * high_length + high_length - k * high_length ≡ high_length = omega arith in
-    rw e at c.read_high-read.ensures
+-- the record at hand is whole, and stands in front of what is left
+size : (c : After-high_after) → length c.in-Some.bytes.now ≡ high_length
+size c = c.in-Some.ensures.steps.1.1 ∙ c.loop-bytes.invariant.2
 
-pub loop-k-init : goal.loop-k-init
-loop-k-init c = (omega arith, refl, going_none _)
+front : (c : After-high_after)
+    → Going c.args.file.now (c.in-Some.bytes.now ++ chunks_exact_rest c.next.new.self) c.loop-bytes.last
+front c = rw c.in-Some.ensures.steps.1.0 at c.loop-bytes.invariant.3
 
-pub returns-then-not-is_high : goal.returns-then-not-is_high
-returns-then-not-is_high c =
-    pass_bad c.args.file.now c.loop-k.k (omega arith) c.loop-k.last c.loop-k.invariant.2
-    c.read_high-read.result (read (goal.at.returns-then-not-is_high c).After-read_high-read) c.is_high.result
-    c.is_high.ensures
-    (c.if-not-is_high.true)
+pub loop-bytes-init : goal.loop-bytes-init
+loop-bytes-init c =
+    let chunks = c.chunks_exact-bytes-items.ensures in
+    let gives = c.into_iter-bytes-iterator.ensures.into_iter_gives in
+    let size = ap chunks_exact_size gives ∙ chunks.size in
+    (omega arith, tt, size, rw (ap chunks_exact_rest gives ∙ chunks.rest) (going_none _))
 
-pub loop-k-preserved : goal.loop-k-preserved
-loop-k-preserved c = (
-  omega arith,
-  refl,
-  going_next c.args.file.now c.loop-k.k (omega arith) c.loop-k.last c.loop-k.invariant.2
-      c.read_high-read.result (read (goal.at.loop-k-preserved c).After-read_high-read) c.is_high.result
-      c.is_high.ensures
-      (c.if-not-is_high.false),
-)
+pub returns-in_err-last : goal.returns-in_err-last
+returns-in_err-last c =
+    let at = (goal.at.returns-in_err-last c).After-high_after in
+    ap marks_as c.from_residual.ensures ∙ pass_bad _ _ _ _ (size at) (front at) c.in_err-last.ensures
+
+pub loop-bytes-preserved : goal.loop-bytes-preserved
+loop-bytes-preserved c =
+    let at = (goal.at.loop-bytes-preserved c).After-high_after in
+    let same = c.in-Some.ensures.steps.0 ∙ c.loop-bytes.invariant.2 in
+    (omega arith, tt, same, going_next _ _ _ _ (size at) (front at) _ c.in_ok-last.ensures)
 
 pub returns : goal.returns
-returns c = pass_end _ c.loop-k.k _ (omega arith) c.loop-k.invariant.2
+returns c =
+    let short = c.in-None.ensures.steps.1.0 in
+    let size = c.loop-bytes.invariant.2 in
+    pass_end _ _ _ (omega arith) c.loop-bytes.invariant.3

@@ -1,27 +1,19 @@
-use mathlib.Core.Path.{◌≡◌, refl, sym, ap, ◌∙◌}
-use mathlib.Core.Bool.{Bool, ◌&&◌}
-use Prim.Native.Nat.{◌+◌}
+use mathlib.Core.Path.{◌≡◌, refl, sym, ◌∙◌}
 use native.Mathlib.Omega.{arith}
-use lib.ListN.{get_or}
 use Rattle.laws.specs.Fin.{allb}
-use Rattle.records.specs.Numbers.{within}
+use Rattle.laws.proofs.Cuts.{same_count, part_length, get_or_part}
 use Rattle.laws.proofs.Loops.{all_one}
 use Rattle.row.proofs.checks.are_within.Goals as goal
 
-pub loop-k-init : goal.loop-k-init
+pub loop-number-init : goal.loop-number-init
 unfolding allb
-loop-k-init c = (omega arith, refl)
+loop-number-init c = refl
 
-pub loop-k-preserved : goal.loop-k-preserved
-loop-k-preserved c =
-    let l = c.loop-k in
-    let s = c.args in (
-      omega arith,
-      ap (λ (b : Bool). within (get_or s.s.now (s.at + l.k) 0) && b) l.invariant.1 ∙ sym (all_one l.k _),
-    )
-
-pub returns : goal.returns
-returns c =
-    let l = c.loop-k in
-    let e : l.k ≡ c.args.n = omega arith in
-    l.invariant.1 ∙ rw e
+pub loop-number-preserved : goal.loop-number-preserved
+loop-number-preserved c =
+    let a = c.args in
+    let l = c.loop-number in
+    let long = part_length a.n a.at a.s.now c.requires in
+    let test = rw (same_count a.at a.n) at c.loop-number-test.true in
+    rw (same_count a.at a.n, get_or_part a.n a.at l.number-index a.s.now 0 (omega arith), l.invariant)
+    (sym (all_one l.number-index _))

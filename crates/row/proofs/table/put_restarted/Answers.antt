@@ -10,14 +10,6 @@ use Rattle.row.proofs.Words.{words_row, restarted_shaped}
 use Rattle.row.proofs.Tables.{row_length_lem, row_put, rows_next, rows_words}
 use Rattle.row.proofs.table.put_restarted.Goals as goal
 
-pub loop-room-init : goal.loop-room-init
-loop-room-init c = (omega arith, c.requires, λ k l. absurd (omega arith))
-
-pub put_restarted-requires : goal.put_restarted-requires
-put_restarted-requires c =
-    let l = c.loop-room in
-    rw (same_count (row_place l.room) row_length) (row_length_lem l.t l.room l.invariant.1 (omega arith))
-
 pub loop-room-preserved : goal.loop-room-preserved
 loop-room-preserved c =
     let l = c.loop-room in
@@ -26,17 +18,13 @@ loop-room-preserved c =
     let is = c.put_restarted.ensures in
     let fits : length row ≡ row_length =
     rw is (words_row (restarted a.office a.m) (restarted_shaped a.office a.m)).long in
-    let put = row_put l.t row l.room l.invariant.1 (omega arith) fits in (
-      omega arith,
-      rw put (length-sets l.t (row_place l.room) row ∙ l.invariant.1),
-      rw put (rows_next l.t row l.room (λ k. words_of (restarted a.office a.m)) l.invariant.1 (omega arith) fits is
-          l.invariant.2),
+    let put = row_put l.t row l.room l.invariant.0 (omega arith) fits in (
+      rw put (length-sets l.t (row_place l.room) row ∙ l.invariant.0),
+      rw put (rows_next l.t row l.room (λ k. words_of (restarted a.office a.m)) l.invariant.0 (omega arith) fits is
+          l.invariant.1),
     )
-
-pub shape_of-t : goal.shape_of-t
-shape_of-t c = c.loop-room.invariant.1 ∙ sym c.requires
 
 pub returns : goal.returns
 returns c =
     let l = c.loop-room in
-    rows_words l.t _ l.invariant.1 (λ room lt. l.invariant.2 room (omega arith))
+    rows_words l.t _ l.invariant.0 (λ room lt. l.invariant.1 room (omega arith))

@@ -1,7 +1,6 @@
 use mathlib.Core.Path.{◌≡◌}
-use Prim.Native.Nat.{ℕ, ◌-◌, ◌≤◌, ◌<◌}
+use Prim.Native.Nat.{ℕ, ◌<◌}
 use lib.ListN.{length}
-use Rattle.records.specs.Numbers.{room_count}
 use Rattle.rules.specs.Rules.{restarted}
 use Rattle.row.specs.Row.{words_of}
 use Rattle.row.specs.Table.{table_length, row_at}
@@ -9,9 +8,5 @@ use Rattle.row.proofs.table.put_restarted.Given as goal
 
 abbrev pub invariant-loop-room : goal.invariant-loop-room
 invariant-loop-room l =
-    (l.room ≤ room_count) × (length l.t ≡ table_length)
+    (length l.t ≡ table_length)
     × ((k : ℕ) → k < l.room → row_at l.t k ≡ words_of (restarted l.office l.m))
-
-abbrev pub decreases-loop-room : goal.decreases-loop-room
-decreases-loop-room l =
-    room_count - l.room

@@ -9,4 +9,5 @@ use Rattle.row.proofs.table.row_of.Goals as goal
 pub returns : goal.returns
 returns c =
     let a = c.args in
-    ap (λ (n : ℕ). take n (drop (row_place a.room) a.t.now)) (same_count (row_place a.room) row_length)
+    rw c.from-at.ensures
+    (ap (λ (n : ℕ). take n (drop (row_place a.room) a.t.now)) (same_count (row_place a.room) row_length))

@@ -1,33 +1,20 @@
-use mathlib.Core.Path.{◌≡◌, refl, sym, ap, ◌∙◌}
-use mathlib.Core.Bool.{Bool, ◌&&◌}
-use native.Mathlib.Omega.{arith}
-use Rattle.laws.specs.Fin.{allb}
-use Rattle.laws.proofs.Cuts.{same_count}
-use Rattle.laws.proofs.Loops.{all_one}
-use Rattle.records.specs.Numbers.{room_count}
-use Rattle.row.specs.Row.{row_length, sound_row}
-use Rattle.row.specs.Table.{row_place, row_at}
-use Rattle.row.proofs.Tables.{sound_tests}
+use mathlib.Core.Path.{ap, ◌∙◌}
+use lib.ListN.{length-append}
+use Rattle.std.specs.Slice.Iter.{chunks_exact_size, chunks_exact_rest}
+use Rattle.row.proofs.Chunks.{looked_none, looked_one, looked_all}
 use Rattle.row.proofs.table.rows_sound.Goals as goal
 
-pub loop-room-init : goal.loop-room-init
-unfolding allb
-loop-room-init c = (omega arith, c.requires, refl)
+pub loop-row-init : goal.loop-row-init
+loop-row-init c =
+    let i = c.into_iter-row-iterator.ensures.into_iter_gives in
+    looked_none c.args.t.now c.requires _ _ (ap chunks_exact_size i ∙ c.chunks_exact-row-items.ensures.size)
+    (ap chunks_exact_rest i ∙ c.chunks_exact-row-items.ensures.rest)
 
-pub loop-room-preserved : goal.loop-room-preserved
-loop-room-preserved c =
-    let t = c.args.t.now in
-    let k = c.loop-room.room in
-    let e = rw (same_count (row_place k) row_length) at c.is_sound-ok.ensures in (
-      omega arith,
-      c.loop-room.invariant.1,
-      ap (λ (b : Bool). b && c.loop-room.ok) e
-          ∙ ap (λ (b : Bool). sound_row (row_at t k) && b) c.loop-room.invariant.2
-          ∙ sym (all_one k (λ i. sound_row (row_at t i))),
-    )
+pub loop-row-preserved : goal.loop-row-preserved
+loop-row-preserved c =
+    let s = c.in-Some.ensures.steps in
+    simp length-append (looked_one c.args.t.now c.requires c.loop-row.invariant _ _ _ _ s.0 s.1.0 s.1.1
+    c.is_sound-ok.ensures)
 
 pub returns : goal.returns
-returns c =
-    let l = c.loop-room in
-    let e : l.room ≡ room_count = omega arith in
-    l.invariant.2 ∙ rw e (sym (sound_tests _ l.invariant.1))
+returns c = looked_all c.args.t.now c.requires c.loop-row.invariant c.in-None.ensures.steps.1.0

@@ -1,17 +1,8 @@
-use mathlib.Core.Path.{◌≡◌}
-use Prim.Native.Nat.{◌-◌, ◌≤◌}
 use lib.ListN.{length}
-use Rattle.laws.specs.Fin.{allb}
-use Rattle.records.specs.Numbers.{room_count}
-use Rattle.row.specs.Row.{sound_row}
-use Rattle.row.specs.Table.{table_length, row_at}
+use Rattle.std.specs.Slice.Iter.{chunks_exact_size, chunks_exact_rest}
+use Rattle.row.proofs.Chunks.{Looked}
 use Rattle.row.proofs.table.rows_sound.Given as goal
 
-abbrev pub invariant-loop-room : goal.invariant-loop-room
-invariant-loop-room l =
-    (l.room ≤ room_count) × (length l.t ≡ table_length)
-    × (l.ok ≡ allb l.room (λ k. sound_row (row_at l.t k)))
-
-abbrev pub decreases-loop-room : goal.decreases-loop-room
-decreases-loop-room l =
-    room_count - l.room
+abbrev pub invariant-loop-row : goal.invariant-loop-row
+invariant-loop-row l =
+    Looked l.t (length l.yielded) (chunks_exact_size l.row-iterator) (chunks_exact_rest l.row-iterator) l.ok

@@ -7,5 +7,4 @@ returns c =
     rw (
       c.number.ensures,
       ← c.own-own.ensures,
-      ← c.requires.2,
     )

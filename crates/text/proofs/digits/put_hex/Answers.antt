@@ -10,24 +10,15 @@ use Rattle.text.proofs.digits.put_hex.Goals as goal
 
 pub loop-i-init : goal.loop-i-init
 unfolding hex_of
-loop-i-init c = (omega arith, refl, refl)
-
-pub bounds-out-at-in-loop-i : goal.bounds-out-at-in-loop-i
-bounds-out-at-in-loop-i c = simp length-set (omega arith)
+loop-i-init c = (refl, refl)
 
 pub loop-i-preserved : goal.loop-i-preserved
 loop-i-preserved c =
     let l = c.loop-i in
-    let a = c.args in
-    let b = a.bytes.now in (
-      omega arith,
-      simp length-set l.invariant.1,
-      rw (c.high.ensures, c.low.ensures, l.invariant.2)
-          (hex_more a.out.now a.at l.i b (omega arith)),
+    let a = c.args in (
+      simp length-set l.invariant.0,
+      rw (c.digits_of.ensures, l.invariant.1) (hex_more a.out.now a.at l.i a.bytes.now (omega arith)),
     )
-
-pub shape_of-out : goal.shape_of-out
-shape_of-out c = c.loop-i.invariant.1
 
 pub returns : goal.returns
 returns c =
@@ -37,5 +28,5 @@ returns c =
     record {
       place = let e = hex_length b in omega arith;
       short = omega arith;
-      output = l.invariant.2 ∙ ap (λ (t : List ℕ). sets a.out.now a.at (hex_of t)) (take_all l.i b (omega arith));
+      output = l.invariant.1 ∙ ap (λ (t : List ℕ). sets a.out.now a.at (hex_of t)) (take_all l.i b (omega arith));
     }

@@ -1,5 +1,4 @@
 use mathlib.Core.Path.{◌≡◌}
-use Prim.Native.Nat.{◌-◌, ◌≤◌}
 use lib.ListN.{length, take}
 use lib.Seq.{sets}
 use Rattle.text.specs.Digits.{hex_of}
@@ -7,8 +6,4 @@ use Rattle.text.proofs.digits.put_hex.Given as goal
 
 abbrev pub invariant-loop-i : goal.invariant-loop-i
 invariant-loop-i l =
-    (l.i ≤ length l.bytes) × (length l.out ≡ length l.initial.out)
-    × (l.out ≡ sets l.initial.out l.at (hex_of (take l.i l.bytes)))
-
-abbrev pub decreases-loop-i : goal.decreases-loop-i
-decreases-loop-i l = length l.bytes - l.i
+    (length l.out ≡ length l.initial.out) × (l.out ≡ sets l.initial.out l.at (hex_of (take l.i l.bytes)))

@@ -1,0 +1,4 @@
+-- bytes
+pub mod Putting
+-- own_checks
+pub mod OwnMark

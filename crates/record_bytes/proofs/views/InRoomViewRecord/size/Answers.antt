@@ -1,0 +1,12 @@
+use mathlib.Core.Path.{◌≡◌}
+use lib.ListN.{length}
+use Rattle.records.proofs.Lengths.{view_length_lem}
+use Rattle.record_bytes.proofs.views.InRoomViewRecord.size.Goals.{Start}
+use Rattle.record_bytes.proofs.views.InRoomViewRecord.size.Goals as goal
+
+-- the length of the array that is a field of the record
+array_len : (c : Start) → length c.args.self.«record».starts ≡ 16
+array_len c = c.well_formed.0.1.1.1.0.1.1.1.1.0.1.0.1
+
+pub returns-clause-whole : goal.returns-clause-whole
+returns-clause-whole c = view_length_lem c.args.self.room c.args.self.«record» (array_len c)

@@ -1,6 +1,0 @@
-use mathlib.Core.Path.{sym}
-use Rattle.row.proofs.Stretches.{well-stretch}
-use Rattle.row.proofs.checks.is_well_formed.Goals as goal
-
-pub returns : goal.returns
-returns c = rw (c.are_within.ensures, c.slots_within.ensures) (sym (well-stretch c.args.s.now))

@@ -1,7 +1,0 @@
-use mathlib.Core.Path.{refl}
-use Rattle.row.specs.Row.{state_of}
-use Rattle.row.proofs.readers.start.Goals as goal
-
-pub returns : goal.returns
-unfolding state_of
-returns c = refl
