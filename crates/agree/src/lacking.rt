@@ -36,6 +36,7 @@ pub fn lowest_lacking(row: Row) -> Option<u8>
     let number = row.number();
     let offices = touched(net);
     let mut left = offices.bits;
+    // The offices left are bits of a number, and no iterator of std goes over bits.
     while let Some(o) = first(left) {
         if disagrees(row, usize::from(o), mode, number, net) {
             return Some(o);

@@ -57,16 +57,17 @@ emptied_some p {waiting} o {o'} sent l r f s e =
     front = ap (take left) e ∙ ap (λ (k : ℕ). take k (sets o 0 rest)) (sym size)
         ∙ sets_front o rest (omega (arith, size))
 
+-- a line put; given is the output once it is handed back
 pub told : (traced : Bool) (p : Place) (taken : ℕ) (a : Answer) (view : ℕ) (out : List ℕ)
-    {o o' : List ℕ} {refusal written k next most : ℕ} → refusal ≡ a.refusal → written ≡ a.written
+    {o o' given : List ℕ} {refusal written k next most : ℕ} → refusal ≡ a.refusal → written ≡ a.written
     → k ≡ ifb traced written 0
     → Put most o p.filled (line_of (p.number + 1) refusal written view (take k out)) next o'
-    → p.filled + most ≤ buffer_length → length o ≡ buffer_length
+    → o' ≡ given → p.filled + most ≤ buffer_length → length o ≡ buffer_length
     → Told traced p taken a view out o
-    (record { ended = p.ended; at = p.at + taken; end = p.end; filled = next; number = p.number + 1 }) o'
+    (record { ended = p.ended; at = p.at + taken; end = p.end; filled = next; number = p.number + 1 }) given
 unfolding unwritten_of
-told traced p taken a view out f w k put room lo = record {
+told traced p taken a view out f w k put e room lo = rw (← e) (record {
   place = refl;
   filled = omega (arith, put.short);
   line = put_behind put (omega (arith, put.short, put.place)) ∙ rw (k, f, w);
-}
+})

@@ -49,6 +49,7 @@ pub fn flush<C: Clock, W: Print>(clock: &C, to: &W, part: &[u8]) -> usize
     ensures { result ≤ length part.now }
 {
     let mut rest = part;
+    // Where a write begins is the answer of the one before, which no iterator can know.
     while !rest.is_empty() {
         let put = counted(write_some(clock, to, rest));
         if put == 0 {

@@ -9,6 +9,7 @@ use crate::input::{Place, to_front};
 use crate::output::{due, flush, has_room};
 use records::Refusal;
 use std::rt::Clock;
+use text::Text;
 
 // What is unwritten is written before the program waits, and where a line could have no room; what a failed write left
 // over goes to the front.
@@ -35,7 +36,7 @@ fn numbers(answer: Result<usize, Refusal>) -> (u8, usize)
     }
 }
 
-// How many of the bytes written a line shows.
+// How many of the bytes written a line shows, by the flag that `Told` is of.
 fn shown(traced: bool, written: usize) -> usize
     ensures { (result ≡ ifb traced written 0) × (result ≤ written) }
 {
@@ -60,13 +61,10 @@ pub fn told(
     let n = shown(traced, written);
     p.at += taken;
     p.number += 1;
-    p.filled = text::put_line(
-        output,
-        p.filled,
-        p.number,
-        refusal,
-        written,
-        view,
-        &out[..n],
-    );
+    let mut text = Text {
+        bytes: output,
+        at: p.filled,
+    };
+    text.line(p.number, refusal, written, view, &out[..n]);
+    p.filled = text.at;
 }

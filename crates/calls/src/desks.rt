@@ -41,8 +41,8 @@ fn is_desk(words: &[u32]) -> bool
     words.len() == WORDS
 }
 
-// The desk of one room; a room above 7 has no words, and its machine is that of zeros. It takes a slice, as what follows:
-// the contract of try_from, at `&mut [u32; WORDS]`, does not say that an Err leaves the words as they were.
+// The desk of one room; a room above 7 has no words, and its machine is that of zeros. It takes a slice, as do the
+// functions below: the contract of try_from, at `&mut [u32; WORDS]`, does not say that an Err leaves the words.
 #[tactic(auto, using(crate::proofs::InDeskWords::read_laws))]
 fn desk_in(words: &[u32], room: u8) -> Desk
     requires { length words.now ≡ desk_length }

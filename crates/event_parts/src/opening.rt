@@ -11,7 +11,7 @@ use crate::output::Output;
 use records::{InRoom, Notice, Proposal};
 use row::RowMut;
 
-// A proposal arrives.
+// A proposal arrives. That its sender is an office is check 6's word, for an office: a record has any byte there.
 pub fn receive(row: &mut RowMut, p: Proposal)
     requires { p.sender < 16 }
     ensures { Moved (receiving p) row.old row.new }

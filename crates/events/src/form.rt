@@ -55,7 +55,7 @@ fn uses_itself(p: &Proposal) -> bool
     requires { p.now.sender < 16 }
     ensures { result ≡ uses_itself p.now }
 {
-    p.number <= p.used[p.sender as usize]
+    p.number <= p.used[usize::from(p.sender)]
 }
 
 // Checks 6 to 10 and 19: the first that applies.

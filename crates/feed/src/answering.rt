@@ -18,7 +18,7 @@ use records::Refusal;
 use step::held::{step_held, view_number};
 use text::lines::{goes_on, roomless};
 
-// The current view number of the record's room, 0 where it is of none.
+// The current view number of the record's room, 0 where it is of none, as the line has it.
 fn view_for(table: &[u32], record: &[u8], answer: Result<usize, Refusal>) -> u32
     requires { SoundTable table.now × (roomless (refusal_of answer) ≡ false → room_of «record».now < room_count) }
     ensures { result ≡ ifb (roomless (refusal_of answer)) 0

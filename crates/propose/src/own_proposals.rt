@@ -27,6 +27,7 @@ fn used_within(row: Row, net: SeatSet) -> [u32; 16]
 }
 
 pub fn own_proposal(row: Row, mode: Mode, n: u32) -> Proposal
+    requires { (held row).own < 16 }
     ensures { result ≡ own_proposal (meaning mode) n (held row.entry) }
 {
     let net = row.net();

@@ -30,7 +30,7 @@ fn calls(row: Row, o: usize, own: usize, mode: Mode, number: u32, net: SeatSet) 
 
 // In mode fast or slow.
 pub fn slow_called(row: Row) -> bool
-    requires { is_none (held row).mode ≡ false }
+    requires { ((held row).own < 16) × (is_none (held row).mode ≡ false) }
     ensures { result ≡ slow_called (held row.entry) }
 {
     let mode = row.mode();
@@ -38,6 +38,7 @@ pub fn slow_called(row: Row) -> bool
     let own = usize::from(row.own());
     let number = row.number();
     let mut left = row.present();
+    // The offices left are bits of a number, and no iterator of std goes over bits.
     while let Some(o) = first(left) {
         if calls(row, usize::from(o), own, mode, number, net) {
             return true;

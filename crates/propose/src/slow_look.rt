@@ -40,6 +40,7 @@ fn looked(a: Look, row: Row, o: usize, own: usize, number: u32, net: SeatSet) ->
 }
 
 pub fn look_at_all(row: Row) -> Look
+    requires { (held row).own < 16 }
     ensures { result ≡ look_of 16 (held row.entry) }
 {
     let net = row.net();

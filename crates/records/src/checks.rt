@@ -17,7 +17,7 @@ pub fn mark_value(bytes: &[u8]) -> Option<u16>
     Some(u16::from_be_bytes([bytes[0], bytes[1]]))
 }
 
-// The room that bytes name, any byte; 0 where there is none.
+// The room that bytes name, any byte; 0 where there is none, as the definition room_of has it.
 #[tactic(auto, unfolding(crate::specs::Layout::room_of))]
 pub fn room_of(bytes: &[u8]) -> u8
     ensures { result ≡ room_of bytes.now }

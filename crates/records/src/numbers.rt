@@ -49,6 +49,7 @@ pub fn stray_number(members: SeatSet, numbers: &[u32; 16]) -> bool
     let offices = touched(members);
     let mut left = offices.bits;
     let mut others = nonzero(numbers);
+    // The offices left are bits of a number, and no iterator of std goes over bits.
     while let Some(o) = first(left) {
         others -= (numbers[o as usize] != 0) as u32;
         left &= left - 1;

@@ -36,7 +36,7 @@ fn fitting(n: usize, run: &[u8]) -> usize
     if n <= run.len() { n } else { 0 }
 }
 
-// The length of the record in front; 0 where the run ends here.
+// The length of the record in front; 0 where the run ends here: what run_first and run_rest cut off is of this length.
 fn run_size(run: &[u8]) -> usize
     ensures { (result ≡ run_size run.now) × (result ≤ length run.now) }
 {

@@ -20,7 +20,11 @@ const FILE_LIMIT: usize = 2_001 * layout::HIGH_LENGTH;
 fn least(p: u32) -> u64
     ensures { result ≡ ifb (eqb p 0) 0 (p + gap) }
 {
-    if p == 0 { 0 } else { p as u64 + GAP as u64 }
+    if p == 0 {
+        0
+    } else {
+        u64::from(p) + u64::from(GAP)
+    }
 }
 
 // Whether a mark of number n may come after one of number p, 0 before the first.
@@ -28,7 +32,7 @@ fn least(p: u32) -> u64
 fn may_follow(p: u32, n: u32) -> bool
     ensures { result ≡ may_follow p n }
 {
-    (n <= LIMIT) & ((least(p) < n as u64) | ((n == LIMIT) & (p < LIMIT)))
+    (n <= LIMIT) & ((least(p) < u64::from(n)) | ((n == LIMIT) & (p < LIMIT)))
 }
 
 // The number of a record that is such a mark, where the one before it has number p.
@@ -46,7 +50,7 @@ fn high_after(p: u32, bytes: &[u8]) -> Option<u32>
     }
 }
 
-// The last mark of the whole records, 0 where there are none; the first that is no mark ends it.
+// The last mark of the whole records, 0 where there are none: at 0 an office begins; the first that is no mark ends it.
 fn pass(file: &[u8]) -> Option<u32>
     ensures { marks_as result ≡ marks_in file.now }
 {

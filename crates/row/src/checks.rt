@@ -22,9 +22,7 @@ pub fn is_sound(s: &[u32]) -> bool
     ensures { result ≡ sound_row s.now }
 {
     if form::is_row(s) {
-        if s[layout::OWN] <= LAST_OFFICE {
-            return Row { words: s }.is_well_formed();
-        }
+        return Row { words: s }.is_well_formed();
     }
     false
 }
@@ -81,6 +79,7 @@ impl Row<'_> {
         ensures { result ≡ stored_low self.entry.words.now }
     {
         let mut left = self.present();
+        // The offices left are bits of a number, and no iterator of std goes over bits.
         while let Some(o) = first(left) {
             if !self.low_at(usize::from(o)) {
                 return false;
@@ -102,7 +101,9 @@ impl Row<'_> {
     fn is_well_formed(self) -> bool
         ensures { result ≡ well_formed (held self.entry) }
     {
-        are_within(self.words, layout::START, OWN_NUMBERS) & self.slots_within()
+        (self.words[layout::OWN] <= LAST_OFFICE)
+            & are_within(self.words, layout::START, OWN_NUMBERS)
+            & self.slots_within()
     }
 
     fn slot_within(self, o: usize) -> bool

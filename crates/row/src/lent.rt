@@ -7,7 +7,6 @@ ghost use Rattle.row.specs.Row.{Row as IsRow, state_of};
 pub struct Row<'a> {
     pub words: &'a [u32],
     ghost is: { IsRow words.now },
-    ghost office: { (state_of words.now).own < 16 },
 }
 
 // What is changed in place.

@@ -1,5 +1,6 @@
 // The state of an office in a row of words, one row for each room in the table that the caller lends; inner to the
 // layer of the step. Contracts speak of the record State; no function outside this crate names a place of the row.
+// An office is an index below 16 here, not a type: loops go over 0..16, and each turn would make one anew.
 #![tactic(auto)]
 
 // The places.

@@ -14,6 +14,7 @@ use seats::SeatSet;
 // One for each place: what each answers is another part of the state, which one for all places could not say.
 impl Row<'_> {
     pub fn own(self) -> u8
+        requires { (held self).own < 16 }
         ensures { result ≡ (held self.entry).own }
     {
         self.words[layout::OWN] as u8

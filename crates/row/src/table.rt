@@ -42,7 +42,7 @@ pub fn row_of<'a>(t: &'a [u32], room: u8) -> &'a [u32]
     &t[at..at + layout::WORDS]
 }
 
-// The same of a table that passes check 2.
+// The same of a table that passes check 2. No type says that it does: step_held, and Session in feed, have words.
 pub fn row_in<'a>(t: &'a [u32], room: u8) -> Row<'a>
     requires { SoundTable t.now × (room < room_count) }
     ensures { result.words.now ≡ row_at t.now room }

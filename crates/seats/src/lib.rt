@@ -2,7 +2,8 @@
 #![tactic(auto)]
 
 ghost use Rattle.std.specs.Prelude.{◌≡◌, eqb};
-ghost use Rattle.seats.specs.Seats.{is_seat, contains_of, insert_of, remove_of, lowest_seat, first_seat, union_of, without_of};
+ghost use Rattle.seats.specs.Seats.{is_seat, contains_of, insert_of, remove_of, lowest_seat, first_seat};
+ghost use Rattle.seats.specs.Seats.{union_of, without_of};
 
 // The offices of a set: which they are, how many, and the lowest.
 pub mod offices;
@@ -78,7 +79,7 @@ impl SeatSet {
         }
     }
 
-    // The lowest seat.
+    // The lowest seat. As `offices::first`, of another width: one for both would ask a trait for trailing zeros.
     pub fn first(self) -> Option<u8>
         ensures { result ≡ first_seat self.bits }
     {

@@ -36,6 +36,7 @@ fn not_above(row: Row, p: &Proposal) -> bool
 
 // Check 12.
 fn used_ahead(row: Row, p: &Proposal) -> bool
+    requires { (held row).own < 16 }
     ensures { result ≡ used_ahead (held row.entry) p.now }
 {
     let own = row.own() as usize;
@@ -44,7 +45,7 @@ fn used_ahead(row: Row, p: &Proposal) -> bool
 
 // Checks 11 and 12: the first that applies.
 pub fn state_refusal(row: Row, p: &Proposal) -> Result<(), Refusal>
-    requires { p.now.sender < 16 }
+    requires { ((held row).own < 16) × (p.now.sender < 16) }
     ensures { refusal_of result ≡ first_of (state_checks (held row.entry) p.now) }
 {
     if not_above(row, p) {

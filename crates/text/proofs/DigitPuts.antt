@@ -1,16 +1,15 @@
 -- For the module digits: text put behind text, and one more of what a loop puts.
 use mathlib.Core.Path.{◌≡◌, refl, sym, ap, ◌∙◌}
 use mathlib.Core.List.{List, [], ◌∷◌, ◌++◌}
-use Prim.Native.Nat.{ℕ, suc, ◌+◌, ◌*◌, ◌/◌, ◌%◌, ◌<◌}
+use Prim.Native.Nat.{ℕ, suc, ◌+◌, ◌/◌, ◌%◌}
 use native.Mathlib.Omega.{arith}
-use native.Mathlib.Numerals.{add-one}
-use lib.ListN.{length, take, get_or, set, length-append}
-use lib.Seq.{sets, take-suc, length-take-le}
+use lib.ListN.{length, set, length-append}
+use lib.Seq.{sets}
 use Rattle.laws.proofs.Seqs.{sets_append, set_behind}
 use Rattle.text.specs.Digits.{glyph, decimal, last_digits, hex_of}
 use Rattle.text.specs.Lengths.{number_length}
 use Rattle.text.specs.Put.{Put, DigitCount}
-use Rattle.text.proofs.Decimals.{digits_length, decimal_digits, decimal_one}
+use Rattle.text.proofs.Decimals.{digits_length, decimal_digits}
 
 -- text behind text
 pub put_then : {o p q : List ℕ} {at m n u v : ℕ} {a b : List ℕ} → Put u o at a m p → Put v p m b n q
@@ -36,9 +35,6 @@ spell_more o at left n =
     ∙ ap (λ (k : ℕ). set (sets o at d) (at + k) (48 + n % 10)) l
     ∙ set_behind o at (at + left) (48 + n % 10) d (omega arith))
 
-pub number_one : (o : List ℕ) (at n : ℕ) → n < 10 → Put number_length o at (decimal n) (at + 1) (set o at (48 + n))
-number_one o at n h = rw (decimal_one n h) (record { place = refl; output = refl; short = omega arith })
-
 pub number_spelled : {o o' : List ℕ} {at : ℕ} (n k : ℕ) → DigitCount n k → o' ≡ sets o at (last_digits k n)
     → Put number_length o at (decimal n) (at + k) o'
 number_spelled n k h e = rw (decimal_digits n k h) (record {
@@ -47,25 +43,7 @@ number_spelled n k h e = rw (decimal_digits n k h) (record {
   short = omega (arith, h.is, h.few);
 })
 
-hex_append : (a b : List ℕ) → hex_of (a ++ b) ≡ hex_of a ++ hex_of b
+pub hex_append : (a b : List ℕ) → hex_of (a ++ b) ≡ hex_of a ++ hex_of b
 unfolding hex_of
 hex_append [] b = refl
 hex_append (x ∷ a) b = ap (λ (l : List ℕ). glyph (x / 16) ∷ glyph (x % 16) ∷ l) (hex_append a b)
-
-pub hex_length : (a : List ℕ) → length (hex_of a) ≡ 2 * length a
-unfolding hex_of
-hex_length [] = refl
-hex_length (x ∷ a) = let e = hex_length a in omega arith
-
--- one more byte in hexadecimal
-pub hex_more : (o : List ℕ) (at i : ℕ) (b : List ℕ) → i < length b
-    → set (set (sets o at (hex_of (take i b))) (at + 2 * i) (glyph (get_or b i 0 / 16)))
-    (at + 2 * i + 1) (glyph (get_or b i 0 % 16))
-    ≡ sets o at (hex_of (take (i + 1) b))
-unfolding hex_of
-hex_more o at i b h = sym
-    (rw (add-one i, take-suc b i 0, hex_append)
-    (sets_append o at (hex_of (take i b)) (hex_of (get_or b i 0 ∷ []))
-    ∙ ap (λ (k : ℕ). sets (sets o at (hex_of (take i b))) (at + k) (hex_of (get_or b i 0 ∷ [])))
-    (hex_length (take i b) ∙ ap (λ (k : ℕ). 2 * k) (length-take-le i b (omega arith)))
-    ∙ rw (add-one (at + 2 * i))))

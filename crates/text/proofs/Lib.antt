@@ -1,8 +1,8 @@
 -- digits
 mod Decimals
 mod DigitPuts
--- the crate's root: the parts of a line
-mod Puts
+-- Text
+mod Addeds
 -- lines
 pub mod LineLaws
 pub mod RoomLaws

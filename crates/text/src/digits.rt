@@ -3,7 +3,10 @@ ghost use Rattle.std.specs.Prelude.{◌≡◌, [], ◌∷◌, ◌+◌, ◌*◌, 
 ghost use Rattle.std.proofs.lemmas.List.Edits.{sets};
 ghost use Rattle.text.specs.Digits.{glyph, decimal, last_digits, hex_of};
 ghost use Rattle.text.specs.Lengths.{number_length};
-ghost use Rattle.text.specs.Put.{Put, DigitCount};
+ghost use Rattle.text.specs.Added.{Added};
+ghost use Rattle.text.specs.Put.{DigitCount};
+
+use crate::Text;
 
 // The most decimal digits that a number has.
 pub const MOST: usize = 20;
@@ -18,7 +21,7 @@ fn digit_count(n: u64) -> usize
     }
 }
 
-// The last k digits of n from a place on.
+// The last k digits of n from a place on, from the last one back: a slice by places says it plainest.
 fn spell(out: &mut [u8], at: usize, k: usize, n: u64)
     requires { at + k ≤ length out.old }
     ensures { out.new ≡ sets out.old at (last_digits k n) }
@@ -28,19 +31,6 @@ fn spell(out: &mut [u8], at: usize, k: usize, n: u64)
         out[at + i] = 48 + (rest % 10) as u8;
         rest /= 10;
     }
-}
-
-pub fn put_number(out: &mut [u8], at: usize, n: u64) -> usize
-    requires { at + number_length ≤ length out.old }
-    ensures { Put number_length out.old at (decimal n) result out.new }
-{
-    if n < 10 {
-        out[at] = 48 + (n as u8);
-        return at + 1;
-    }
-    let k = digit_count(n);
-    spell(out, at, k, n);
-    at + k
 }
 
 fn digit(d: u8) -> u8
@@ -57,15 +47,28 @@ fn digits_of(byte: u8) -> [u8; 2]
     [digit(byte / 16), digit(byte % 16)]
 }
 
-pub fn put_hex(out: &mut [u8], at: usize, bytes: &[u8]) -> usize
-    requires { at + 2 * length bytes.now ≤ length out.old }
-    ensures { Put (2 * length bytes.now) out.old at (hex_of bytes.now) result
-        out.new }
-{
-    for (i, byte) in bytes.iter().enumerate() {
-        let [high, low] = digits_of(*byte);
-        out[at + 2 * i] = high;
-        out[at + 2 * i + 1] = low;
+impl Text<'_> {
+    pub(crate) fn number(&mut self, n: u64)
+        requires { self.old.at + number_length ≤ length self.old.bytes.now }
+        ensures { Added number_length (decimal n) self.old self.new }
+    {
+        if n < 10 {
+            self.byte(48 + (n as u8));
+            return;
+        }
+        let k = digit_count(n);
+        spell(self.bytes, self.at, k, n);
+        self.at += k;
     }
-    at + 2 * bytes.len()
+
+    pub(crate) fn hex(&mut self, bytes: &[u8])
+        requires { self.old.at + 2 * length bytes.now ≤ length self.old.bytes.now }
+        ensures { Added (2 * length bytes.now) (hex_of bytes.now) self.old self.new }
+    {
+        for byte in bytes {
+            let [high, low] = digits_of(*byte);
+            self.byte(high);
+            self.byte(low);
+        }
+    }
 }

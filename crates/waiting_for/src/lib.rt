@@ -2,7 +2,7 @@
 // above.
 #![tactic(auto)]
 
-ghost use Rattle.std.specs.Prelude.{◌≡◌, true};
+ghost use Rattle.std.specs.Prelude.{◌≡◌, true, ◌<◌};
 ghost use Rattle.rules.specs.Refusals.{well_formed};
 ghost use Rattle.row.specs.Held.{held};
 ghost use Rattle.waiting.specs.Waiting.{for_nobody, waiting_for};
@@ -16,6 +16,7 @@ pub use waiting::Waiting;
 
 // Mode none, or no seat of this office in the net view.
 fn for_nobody(row: Row) -> bool
+    requires { (held row).own < 16 }
     ensures { result ≡ for_nobody (held row.entry) }
 {
     let idle = row.mode() == Mode::None;

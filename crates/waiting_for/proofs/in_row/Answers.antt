@@ -1,6 +1,7 @@
 use native.Mathlib.Omega.{arith}
 use mathlib.Core.Path.{◌≡◌, sym, ◌∙◌}
 use mathlib.Core.Bool.{false}
+use Rattle.rule_laws.proofs.Steps.{well_facts}
 use Rattle.row.specs.Held.{held}
 use Rattle.waiting.specs.Waiting.{for_nobody}
 use Rattle.waiting.proofs.Laws.{busy_mode}
@@ -10,6 +11,9 @@ use Rattle.waiting_for.proofs.in_row.Goals as goal
 
 busy : (c : Else-for_nobody) → for_nobody (held c.args.row) ≡ false
 busy c = sym c.for_nobody.ensures ∙ c.if-for_nobody.false
+
+pub for_nobody-requires : goal.for_nobody-requires
+for_nobody-requires c = (well_facts _ c.requires).own
 
 pub returns-then-for_nobody : goal.returns-then-for_nobody
 returns-then-for_nobody c = for_nobody_lem _ c.requires (sym c.for_nobody.ensures ∙ c.if-for_nobody.true)

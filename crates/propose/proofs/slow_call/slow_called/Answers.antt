@@ -16,7 +16,7 @@ pub calls-requires : goal.calls-requires
 calls-requires c =
     let f = first_some c.in-Some.ensures in (
       rw c.from.ensures (seen_office c.loop-o.invariant f.0 f.1),
-      rw (c.from-own.ensures, c.own.ensures) c.args.row.office,
+      rw (c.from-own.ensures, c.own.ensures) c.requires.0,
     )
 
 pub returns-then-calls : goal.returns-then-calls
@@ -24,7 +24,7 @@ returns-then-calls c =
     let s = state_of c.args.row.words.now in
     let f = first_some c.in-Some.ensures in
     sym (some_stops (calls_in s) c.loop-o.invariant f.0 f.1
-    (answer (goal.at.returns-then-calls c).After-calls ∙ c.if-calls.true)) ∙ called_by s c.requires
+    (answer (goal.at.returns-then-calls c).After-calls ∙ c.if-calls.true)) ∙ called_by s c.requires.1
 
 pub loop-o-preserved : goal.loop-o-preserved
 loop-o-preserved c =
@@ -35,4 +35,4 @@ loop-o-preserved c =
 pub returns : goal.returns
 returns c =
     let s = state_of c.args.row.words.now in
-    sym (some_end (calls_in s) c.loop-o.invariant (first_none c.in_default.ensures)) ∙ called_by s c.requires
+    sym (some_end (calls_in s) c.loop-o.invariant (first_none c.in_default.ensures)) ∙ called_by s c.requires.1

@@ -50,7 +50,7 @@ returns-then-eq c =
 
 pub slow_called-requires : goal.slow_called-requires
 slow_called-requires c =
-    rw c.get-2.ensures (busy (goal.at.slow_called-requires c).Else-eq)
+    rw c.get-2.ensures (c.args.row.now.office, busy (goal.at.slow_called-requires c).Else-eq)
 
 pub proposes_slow-requires-then-slow_called : goal.proposes_slow-requires-then-slow_called
 proposes_slow-requires-then-slow_called c =

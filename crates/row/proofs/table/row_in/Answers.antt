@@ -9,4 +9,4 @@ row_of-requires c = (sound_length c.args.t.now c.requires.0, c.requires.1)
 pub invariant_of-result : goal.invariant_of-result
 invariant_of-result c =
     let s = sound_rows c.args.t.now c.requires.0 c.args.room c.requires.1 in
-    rw c.row_of.ensures (record { is = sound_row_lem _ s; office = (well_facts _ (sound_well _ s)).own })
+    rw c.row_of.ensures (record { is = sound_row_lem _ s })

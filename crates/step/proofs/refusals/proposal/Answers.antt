@@ -1,4 +1,5 @@
 use mathlib.Core.Path.{◌≡◌, sym, ◌∙◌}
+use Rattle.rule_laws.proofs.Steps.{well_facts}
 use Rattle.laws.specs.Checks.{first_of}
 use Rattle.rules.specs.Refusals.{a_proposal, proposal_checks}
 use Rattle.rule_laws.proofs.Checking.{form_passed, form_sender}
@@ -14,7 +15,7 @@ passed c = form_passed _ _ c.requires.1 ∙ sym c.in_ok-state_refusal.ensures
 
 pub state_refusal-requires : goal.state_refusal-requires
 state_refusal-requires c =
-    form_sender (held c.args.row).own c.args.p.now c.requires.1
+    ((well_facts _ c.requires.0).own, form_sender (held c.args.row).own c.args.p.now c.requires.1)
 
 pub returns-in_err-state_refusal : goal.returns-in_err-state_refusal
 returns-in_err-state_refusal c =

@@ -5,6 +5,7 @@ use Prim.Native.Nat.{ℕ}
 use native.Mathlib.Omega.{arith}
 use lib.Dec.{leb}
 use borrow.Author.Tests.{leb-true, not-true}
+use Rattle.rule_laws.proofs.Steps.{well_facts}
 use Rattle.laws.proofs.Fin.{and_l, and_r}
 use Rattle.rules.specs.Rules.{proposal_rule}
 use Rattle.rules.specs.Refusals.{a_proposal}
@@ -37,7 +38,7 @@ pub copy-requires : goal.copy-requires
 copy-requires c = sym c.args.row.is.long
 
 pub invariant_of-tried : goal.invariant_of-tried
-invariant_of-tried c = rw c.copy.ensures (record { is = c.args.row.is; office = c.args.row.office })
+invariant_of-tried c = rw c.copy.ensures (record { is = c.args.row.is; office = (well_facts _ c.requires.0).own })
 
 pub act_on_proposal-requires : goal.act_on_proposal-requires
 act_on_proposal-requires c =

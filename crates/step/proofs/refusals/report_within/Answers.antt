@@ -2,6 +2,7 @@ use mathlib.Core.Path.{refl, sym, ap, ◌∙◌}
 use mathlib.Core.List.{List}
 use Prim.Native.Nat.{ℕ}
 use native.Mathlib.Omega.{arith}
+use Rattle.rule_laws.proofs.Steps.{well_facts}
 use Rattle.rules.specs.Rules.{Outcome, net_after, with_net, change_rule}
 use Rattle.rules.specs.Refusals.{well_formed, a_report}
 use Rattle.rule_laws.proofs.Repeats.{repeat_rule, change_rule_lem}
@@ -29,7 +30,7 @@ pub copy-requires : goal.copy-requires
 copy-requires c = sym c.args.row.is.long
 
 pub invariant_of-tried : goal.invariant_of-tried
-invariant_of-tried c = rw c.copy.ensures (record { is = c.args.row.is; office = c.args.row.office })
+invariant_of-tried c = rw c.copy.ensures (record { is = c.args.row.is; office = (well_facts _ c.requires).own })
 
 pub act_on_change-requires : goal.act_on_change-requires
 act_on_change-requires c = (rw c.copy.ensures c.requires, omega arith)
