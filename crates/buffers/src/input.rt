@@ -1,5 +1,5 @@
 // The input buffer of the program, inner to it: its bytes read and not yet answered; where the program stands.
-ghost use Rattle.std.specs.Prelude.{◌≡◌, ◌==◌, ◌+◌, ◌-◌, ◌<◌, ◌≤◌, length, take, drop};
+ghost use Rattle.std.specs.Prelude.{◌≡◌, ◌==◌, eqb, ◌+◌, ◌-◌, ◌<◌, ◌≤◌, length, take, drop};
 ghost use Rattle.std.proofs.lemmas.List.Edits.{sets};
 ghost use Rattle.records.specs.Refusals.{refusal_of};
 ghost use Rattle.text.specs.Lines.{front_of};
@@ -33,8 +33,8 @@ pub(crate) fn to_front(buf: &mut [u8], at: usize, n: usize)
     buf.copy_within(at..at + n, 0);
 }
 
-// What the input has next, at most as much as fits; it is waited for. No bytes are its end, an error is a failure for
-// good. A loop has to end, so no more tries are made than any run uses up.
+// What the input has next, at most as much as fits; it is waited for. An error is a failure for good. A loop has to
+// end, so no more tries are made than any run uses up.
 #[tactic(auto, using(crate::proofs::Window::read_fits))]
 pub fn read_some(rt: &(impl Input + Clock), part: &mut [u8]) -> io::Result<usize>
     requires { 0 < length part.old }
@@ -50,6 +50,13 @@ pub fn read_some(rt: &(impl Input + Clock), part: &mut [u8]) -> io::Result<usize
     answer
 }
 
+// No bytes are the end of the input.
+pub fn is_end(got: usize) -> bool
+    ensures { result ≡ eqb got 0 }
+{
+    got == 0
+}
+
 // What is still to be answered goes to the front of the buffer, and what the input has next behind it.
 pub fn refill(rt: &(impl Input + Clock), p: &mut Place, input: &mut [u8]) -> io::Result<()>
     requires { Within p.old × (length input.old ≡ buffer_length) × (p.old.end - p.old.at < buffer_length) }
@@ -61,7 +68,7 @@ pub fn refill(rt: &(impl Input + Clock), p: &mut Place, input: &mut [u8]) -> io:
     p.at = 0;
     p.end = n;
     let got = read_some(rt, &mut input[n..])?;
-    p.ended = got == 0;
+    p.ended = is_end(got);
     p.end = n + got;
     Ok(())
 }

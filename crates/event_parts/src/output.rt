@@ -17,7 +17,6 @@ impl Output<'_> {
         requires { self.old.at + R.LENGTH ≤ length self.old.bytes.now }
         ensures { Wrote (R.encoded r) self.old self.new }
     {
-        r.put(self.bytes, self.at);
-        self.at += r.size();
+        self.at += record_bytes::write(self.bytes, self.at, r);
     }
 }

@@ -13,6 +13,7 @@ use form::form_refusal;
 use record_bytes::Record;
 use records::numbers::room_above;
 use records::{InRoom, Proposal, RecordKind, Refusal, Report, check_length, kind_of};
+use seats::SeatSet;
 
 // Checks 6 to 10 and 19 of a proposal.
 mod form;
@@ -30,6 +31,15 @@ pub struct Event {
     pub room: u8,
     pub what: What,
 }
+
+// The event of a refusal.
+const NO_EVENT: Event = Event {
+    room: 0,
+    what: What::Report(Report {
+        joining: SeatSet { bits: 0 },
+        leaving: SeatSet { bits: 0 },
+    }),
+};
 
 // Check 1.
 #[tactic(auto, unfolding(rules::specs::Refusals::made_of))]
@@ -119,4 +129,11 @@ pub fn read_event(office: u8, bytes: &[u8]) -> Result<Event, Refusal>
 {
     office_refusal(office)?;
     formed(office, decode_event(bytes)?)
+}
+
+// The event that a reading gives: with a refusal an empty report of room 0.
+pub fn event_given(read: Result<Event, Refusal>) -> Event
+    ensures { result ≡ (as_read read).event }
+{
+    read.unwrap_or(NO_EVENT)
 }

@@ -8,7 +8,7 @@ ghost use Rattle.feed.specs.Made.{TableMade};
 ghost use Rattle.feed.specs.Steps.{RanTo};
 ghost use Rattle.feed.specs.Whole.{Begins};
 
-use buffers::input::{Place, read_some};
+use buffers::input::{Place, is_end, read_some};
 use buffers::output::{BUFFER, due, flush};
 use session::{Fault, Session};
 use std::env::FillError;
@@ -68,7 +68,7 @@ fn no_office() -> [u8; 8]
 fn first_byte(rt: &(impl Input + Clock)) -> Result<Option<u8>, Fault> {
     let mut byte = [0u8; 1];
     match read_some(rt, &mut byte) {
-        Ok(0) => Ok(None),
+        Ok(got) if is_end(got) => Ok(None),
         Ok(_) => Ok(Some(byte[0])),
         Err(_) => Err(Fault::Unread),
     }

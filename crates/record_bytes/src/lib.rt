@@ -1,7 +1,7 @@
 // The six kinds of record as bytes: a reader and a writer for all.
 #![tactic(auto)]
 
-ghost use Rattle.std.specs.Prelude.{◌≡◌, IfOk};
+ghost use Rattle.std.specs.Prelude.{◌≡◌, IfOk, length};
 ghost use Rattle.records.specs.Refusals.{refusal_of};
 ghost use Rattle.records.specs.Layout.{check_own};
 ghost use Rattle.records.specs.Write.{Placed};
@@ -19,22 +19,22 @@ mod own_checks;
 mod record;
 
 // What an office is told of its seats.
-mod reports;
+pub mod reports;
 
 // What an office proposes to the others.
-mod proposals;
+pub mod proposals;
 
 // Start notices: what an office tells its seats when a change begins.
-mod notices;
+pub mod notices;
 
 // What an office tells its seats when offices agree.
-mod views;
+pub mod views;
 
 // What a desk sends the other desks after a start notice.
-mod syncs;
+pub mod syncs;
 
 // What an office keeps in its file before a record leaves.
-mod highs;
+pub mod highs;
 
 pub use record::Record;
 
@@ -49,7 +49,8 @@ pub fn read<R: Record>(bytes: &[u8]) -> Result<R, Refusal>
 
 // The record at a place of the output, or nothing where it has no room there. The count of bytes written comes back.
 pub fn write<R: Record>(out: &mut [u8], at: usize, r: R) -> usize
-    ensures { Placed out.old at (R.encoded r) result out.new }
+    ensures placed { Placed out.old at (R.encoded r) result out.new }
+    ensures whole { length (R.encoded r) ≡ R.LENGTH }
 {
     let n = r.size();
     let space = out.len().saturating_sub(at);

@@ -1,4 +1,5 @@
-// What a kind of record says of itself: its mark, its length and its fields.
+// What a kind of record says of itself: its mark, its length and its fields. `put`, which asks for room, is inner to
+// this crate: every other calls `write`.
 ghost use Rattle.std.specs.Prelude.{◌≡◌, ℕ, List, ◌+◌, ◌<◌, ◌≤◌, length};
 ghost use Rattle.std.proofs.lemmas.List.Edits.{sets};
 ghost use Rattle.records.specs.Layout.{sized, value_of};

@@ -1,19 +1,18 @@
 -- For the methods of Text: texts put behind each other in one buffer.
 use mathlib.Core.Path.{◌≡◌, refl, sym, ◌∙◌}
 use mathlib.Core.List.{List, [], ◌∷◌, ◌++◌}
-use Prim.Native.Nat.{ℕ, ◌+◌, ◌*◌, ◌/◌, ◌%◌, ◌<◌, ◌≤◌}
+use Prim.Native.Nat.{ℕ, ◌+◌, ◌*◌, ◌<◌, ◌≤◌}
 use native.Mathlib.Omega.{arith}
-use native.Mathlib.Numerals.{add-one}
 use native.Mathlib.Nat.{not-suc-le-zero}
-use lib.ListN.{length, take, get_or}
-use lib.Seq.{length-sets, take-suc}
-use Rattle.text.specs.Digits.{glyph, decimal, hex_of}
+use lib.ListN.{length}
+use lib.Seq.{length-sets}
+use Rattle.text.specs.Digits.{decimal, hex_of}
 use Rattle.text.specs.Lengths.{number_length, numbers_length, trace_length, line_length}
 use Rattle.text.specs.Text.{trace_of, numbers_of, line_of}
 use Rattle.text.specs.declared.Text.{Text}
 use Rattle.text.specs.Added.{Added}
 use Rattle.text.proofs.Decimals.{decimal_one}
-use Rattle.text.proofs.DigitPuts.{put_then, hex_append}
+use Rattle.text.proofs.DigitPuts.{put_then}
 
 module _ {x y : Text} {u : ℕ} {a : List ℕ} where
   -- the buffer keeps its length, so what was not taken is left
@@ -33,11 +32,6 @@ module _ {x y : Text} {u : ℕ} {a : List ℕ} where
   pub added_then : {z : Text} {v : ℕ} {b : List ℕ} → Added u a x y → Added v b y z → Added (u + v) (a ++ b) x z
   added_then f g = record { same = g.same ∙ f.same; put = put_then f.put g.put }
 
--- no byte in hexadecimal
-pub hex_none : (x : Text) → Added 0 (hex_of []) x x
-unfolding hex_of
-hex_none x = record { same = refl; put = record { place = omega arith; output = refl; short = omega arith } }
-
 pub trace_none : (x : Text) (b : List ℕ) → length b ≡ 0 → Added (trace_length (length b)) (trace_of b) x x
 unfolding trace_of
 trace_none x [] h = record { same = refl; put = record { place = omega arith; output = refl; short = omega arith } }
@@ -46,15 +40,6 @@ trace_none x (c ∷ b) h = let z : ⊥ = omega arith in absurd z
 module _ {x y : Text} where
   pub one_digit : (n : ℕ) → n < 10 → Added 1 ((48 + n) ∷ []) x y → Added number_length (decimal n) x y
   one_digit n h f = added_as number_length (sym (decimal_one n h)) (omega arith) f
-
-  -- one more byte in hexadecimal
-  pub hex_more : {z w : Text} (b : List ℕ) (i : ℕ) → i < length b → Added (2 * i) (hex_of (take i b)) x y
-      → Added 1 (glyph (get_or b i 0 / 16) ∷ []) y z → Added 1 (glyph (get_or b i 0 % 16) ∷ []) z w
-      → Added (2 * (i + 1)) (hex_of (take (i + 1) b)) x w
-  unfolding hex_of
-  hex_more b i h f g k =
-      added_as (2 * (i + 1)) (sym (rw (add-one i, take-suc b i 0, hex_append) refl)) (omega arith)
-      (added_then f (added_then g k))
 
   pub trace_some : {z : Text} (b : List ℕ) → 0 < length b → Added 1 (32 ∷ []) x y → Added (2 * length b) (hex_of b) y z
       → Added (trace_length (length b)) (trace_of b) x z

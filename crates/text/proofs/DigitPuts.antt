@@ -1,10 +1,11 @@
 -- For the module digits: text put behind text, and one more of what a loop puts.
 use mathlib.Core.Path.{◌≡◌, refl, sym, ap, ◌∙◌}
 use mathlib.Core.List.{List, [], ◌∷◌, ◌++◌}
-use Prim.Native.Nat.{ℕ, suc, ◌+◌, ◌/◌, ◌%◌}
+use Prim.Native.Nat.{ℕ, suc, ◌+◌, ◌*◌, ◌/◌, ◌%◌, ◌<◌}
 use native.Mathlib.Omega.{arith}
-use lib.ListN.{length, set, length-append}
-use lib.Seq.{sets}
+use native.Mathlib.Numerals.{add-one}
+use lib.ListN.{length, take, get_or, set, length-append}
+use lib.Seq.{sets, take-suc, length-take-le}
 use Rattle.laws.proofs.Seqs.{sets_append, set_behind}
 use Rattle.text.specs.Digits.{glyph, decimal, last_digits, hex_of}
 use Rattle.text.specs.Lengths.{number_length}
@@ -47,3 +48,30 @@ pub hex_append : (a b : List ℕ) → hex_of (a ++ b) ≡ hex_of a ++ hex_of b
 unfolding hex_of
 hex_append [] b = refl
 hex_append (x ∷ a) b = ap (λ (l : List ℕ). glyph (x / 16) ∷ glyph (x % 16) ∷ l) (hex_append a b)
+
+pub hex_length : (a : List ℕ) → length (hex_of a) ≡ 2 * length a
+unfolding hex_of
+hex_length [] = refl
+hex_length (x ∷ a) = let e = hex_length a in omega arith
+
+-- one more byte in hexadecimal
+pub hex_more : (o : List ℕ) (at i : ℕ) (b : List ℕ) → i < length b
+    → set (set (sets o at (hex_of (take i b))) (at + 2 * i) (glyph (get_or b i 0 / 16)))
+    (at + 2 * i + 1) (glyph (get_or b i 0 % 16))
+    ≡ sets o at (hex_of (take (i + 1) b))
+unfolding hex_of
+hex_more o at i b h = sym
+    (rw (add-one i, take-suc b i 0, hex_append)
+    (sets_append o at (hex_of (take i b)) (hex_of (get_or b i 0 ∷ []))
+    ∙ ap (λ (k : ℕ). sets (sets o at (hex_of (take i b))) (at + k) (hex_of (get_or b i 0 ∷ [])))
+    (hex_length (take i b) ∙ ap (λ (k : ℕ). 2 * k) (length-take-le i b (omega arith)))
+    ∙ rw (add-one (at + 2 * i))))
+
+-- and all of them
+pub hex_put : (o : List ℕ) (at : ℕ) (b : List ℕ) (o' : List ℕ) → o' ≡ sets o at (hex_of b)
+    → Put (2 * length b) o at (hex_of b) (at + 2 * length b) o'
+hex_put o at b o' e = record {
+  place = let l = hex_length b in omega arith;
+  output = e;
+  short = let l = hex_length b in omega arith;
+}

@@ -47,6 +47,20 @@ fn digits_of(byte: u8) -> [u8; 2]
     [digit(byte / 16), digit(byte % 16)]
 }
 
+// The two digits of each byte from a place on: a call of its own over two slices, which the compiler knows to be apart,
+// so that many are put at a time.
+#[inline(never)]
+fn spell_hex(out: &mut [u8], at: usize, bytes: &[u8])
+    requires { at + 2 * length bytes.now ≤ length out.old }
+    ensures { out.new ≡ sets out.old at (hex_of bytes.now) }
+{
+    for (i, byte) in bytes.iter().enumerate() {
+        let [high, low] = digits_of(*byte);
+        out[at + 2 * i] = high;
+        out[at + 2 * i + 1] = low;
+    }
+}
+
 impl Text<'_> {
     pub(crate) fn number(&mut self, n: u64)
         requires { self.old.at + number_length ≤ length self.old.bytes.now }
@@ -65,10 +79,7 @@ impl Text<'_> {
         requires { self.old.at + 2 * length bytes.now ≤ length self.old.bytes.now }
         ensures { Added (2 * length bytes.now) (hex_of bytes.now) self.old self.new }
     {
-        for byte in bytes {
-            let [high, low] = digits_of(*byte);
-            self.byte(high);
-            self.byte(low);
-        }
+        spell_hex(self.bytes, self.at, bytes);
+        self.at += 2 * bytes.len();
     }
 }

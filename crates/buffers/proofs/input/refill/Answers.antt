@@ -19,7 +19,7 @@ pub returns : goal.returns
 returns g c =
     let r = c.read_some in
     let f = c.to_front in
-    refilled c.args.p.now c.args.input.now f.new.buf r.new.part
+    rw c.is_end-p.ensures (refilled c.args.p.now c.args.input.now f.new.buf r.new.part
     (record { got = c.in_ok-got.got; ended = eqb c.in_ok-got.got 0; failed = false })
     c.requires.0 c.requires.1 f.ensures f.auto.buf
-    (simp (length-take, length-drop) at r.auto.part ∙ omega (arith, f.auto.buf)) c.in_ok-got.ensures
+    (simp (length-take, length-drop) at r.auto.part ∙ omega (arith, f.auto.buf)) c.in_ok-got.ensures)

@@ -10,4 +10,4 @@ unfolding report_bytes
 returns-then-room_above c = rw (sym c.room_above.ensures ∙ c.if-room_above.true) (placed_none _ 0)
 
 pub overflow_cast-result : goal.overflow_cast-result
-overflow_cast-result c = omega (arith, report_fits _ _ _ _ _ _ c.write.ensures)
+overflow_cast-result c = omega (arith, report_fits _ _ _ _ _ _ c.write.ensures.placed)

@@ -11,7 +11,7 @@ returns-in_err-found c =
 
 pub returns-then-last-mark : goal.returns-then-last-mark
 returns-then-last-mark c =
-    let f = c.in_ok-found.ensures in (f, at_marked _ _ _ _ f c.if-last-mark.true _ _ c.write.ensures)
+    let f = c.in_ok-found.ensures in (f, at_marked _ _ _ _ f c.if-last-mark.true _ _ c.write.ensures.placed)
 
 pub returns-else-last-mark : goal.returns-else-last-mark
 returns-else-last-mark c =
